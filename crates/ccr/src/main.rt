@@ -2,14 +2,11 @@
 #![tactic(auto)]
 
 use ccr_base::{List, Name, OpenGate, OutOfMemory};
-use ccr_cli::run_ccr;
+use ccr_cli::{Failure, run_ccr};
 use ccr_io::{StdSink, StdSource};
 use std::env::FillError;
 use std::process::ExitCode;
 use std::rt::Env;
-
-/// The exit status where there is no memory for the words.
-const NO_MEMORY: u8 = 5;
 
 /// How many bytes a word is first taken to have at most.
 const SHORT: usize = 4096;
@@ -45,7 +42,7 @@ fn words_of<R: Env + AllocGlobal>(rt: &R) -> Result<List<Name>, OutOfMemory> {
 
 fn main(rt: HostRuntime) -> ExitCode {
     let Ok(words) = words_of(&rt) else {
-        return ExitCode::from(NO_MEMORY);
+        return ExitCode::from(Failure::Memory as u8);
     };
     let mut source = StdSource::new(rt.stdin());
     let mut sink = StdSink::new(rt.stdout());

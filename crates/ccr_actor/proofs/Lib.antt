@@ -1,12 +1,13 @@
-pub mod Settled
+pub mod HandsSettle
 mod Plays
-mod Attempted
+mod AttemptsGoOn
 pub mod StepsOfAttempts
-mod Plied
+mod StepsOfWork
 pub mod Bounds
 mod Worked
-pub mod Kept
-mod Acted
-mod Needed
-pub mod Followed
+pub mod WhatCountsIsKept
+mod FieldsAfterAStep
+mod AnswersNeedMemory
+pub mod ActorsFollowTheirSteps
 pub mod Dues
+pub mod TurnsTellStates

@@ -18,7 +18,7 @@ use Rattle.ccr_actor.specs.declared.course.Part.TheVariants as parts
 use Rattle.ccr_actor.specs.Acting.{kept}
 use Rattle.ccr_actor.specs.Actors.{State, turn_of, drive, after_in, admit_too, settled, in_attempt, end_attempt}
 use Rattle.ccr_actor.specs.Courses.{IsUnderWay, target, dropped_by, phase_of, RunsAt, Runs, IsPast, IsHeard, IsStep, owed, heard, fired_on, state_of, hand_of, due_at, due_next}
-use Rattle.ccr_actor.proofs.Attempted.{heard_at}
+use Rattle.ccr_actor.proofs.AttemptsGoOn.{heard_at}
 
 -- nothing is owed where no attempt is under way
 pub none-owed : (wiring : Parts) (actor : ℕ) (state : State) (spots : List Spot) → state.phase ≡ booking → in_attempt wiring actor state spots ≡ []
@@ -83,7 +83,7 @@ pub same_state : (course : Course) (o : Option AttemptState) → hand_of o ≡ h
 same_state course o hand phase = rw (hand, phase) refl
 
 -- a dropped task is noted over at once
-pub settled_drop : (wiring : Parts) (state : State) (more : List Asked) (task : Task) (r : Reply) → dropped_by r ≡ Some task → settled wiring state more r ≡ record state { hand = over_dropped task ∷ more; arbiters = admit_too wiring state task }
+pub settled_drop : (wiring : Parts) (state : State) (more : List Asked) (task : Task) (r : Reply) → dropped_by r ≡ Some task → settled wiring state more r ≡ record state { hand = over_dropped task ∷ more; domains = admit_too wiring state task }
 settled_drop wiring state more task replies.Done is = cc is
 settled_drop wiring state more task (replies.Got m) is = cc is
 settled_drop wiring state more task (replies.Busy t) is = cc is
@@ -108,8 +108,8 @@ always_err (Ok done) P p = tt
 always_err (Err refused) P p = p
 
 -- the turn of a course that drives
-pub driven-turn : (short : Bool) (hand : List Asked) (arbiters : List ℕ) (left : Bool) (spots : List Spot) (spot : Spot) (more : List Spot) → short ≡ false → hand ≡ [] → arbiters ≡ [] → left ≡ true → spots ≡ spot ∷ more → turn_of short hand arbiters (cond left spots []) ≡ drive spot more
-driven-turn short hand arbiters left spots spot more s h a l at = rw (s, h, a, l, at) refl
+pub driven-turn : (short : Bool) (hand : List Asked) (domains : List ℕ) (left : Bool) (spots : List Spot) (spot : Spot) (more : List Spot) → short ≡ false → hand ≡ [] → domains ≡ [] → left ≡ true → spots ≡ spot ∷ more → turn_of short hand domains (cond left spots []) ≡ drive spot more
+driven-turn short hand domains left spots spot more s h a l at = rw (s, h, a, l, at) refl
 
 pub hand_runs : (wiring : Parts) (name : TaskId) (spots : List Spot) (o : Option AttemptState) → Runs wiring name spots o → hand_of o ≡ []
 hand_runs wiring name [] o runs = absurd runs
@@ -123,4 +123,4 @@ driven_target course spot more (Ok reply) way short at =
     let name : TaskId = record { actor = course.number; attempt = course.count } in
     let none : (state_of course).hand ≡ [] = hand_alone course way.dropped way.put ∙ hand_runs course.wiring.now name course.spots course.attempt way.runs in
     let left : nat_lt course.count (2 ^ 32) ≡ true = grind (arith, nat_tests, way.count) in
-    ap (λ t. after_in course.wiring.now course.number (state_of course) t reply) (driven-turn course.short (state_of course).hand course.arbiters.items (nat_lt course.count (2 ^ 32)) course.spots spot more short none way.arbiters left at)
+    ap (λ t. after_in course.wiring.now course.number (state_of course) t reply) (driven-turn course.short (state_of course).hand course.domains.items (nat_lt course.count (2 ^ 32)) course.spots spot more short none way.domains left at)

@@ -63,13 +63,13 @@ pair_of one = (one.place, one.ask)
 
 -- a suspended task goes out with its values and causes
 abbrev pub sent_play : Task → ℕ → Play → List Sent → PlayEnd → Work
-sent_play task place play [] (plays.Yield site) = playing (record task { values = []; causes = [] }) place (record play { causes = [] })
-sent_play task place play posts end = playing task place play
+sent_play task index play [] (plays.Yield site) = playing (record task { values = []; causes = [] }) index (record play { causes = [] })
+sent_play task index play posts end = playing task index play
 
 -- and a post with its causes
 abbrev pub sent_work : Work → Work
-sent_work (playing task place play) = sent_play task place play play.posts play.end
-sent_work (posting task place play sent) = posting task place play (record sent { causes = [] })
+sent_work (playing task index play) = sent_play task index play play.posts play.end
+sent_work (posting task index play sent) = posting task index play (record sent { causes = [] })
 sent_work work = work
 
 -- the state once the ask of this turn was sent

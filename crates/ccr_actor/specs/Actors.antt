@@ -2,6 +2,7 @@
 use Rattle.std.specs.Prelude.{ℕ, ◌+◌, ◌^◌, Bool, true, false, not, ◌==◌, ◌&&◌, ◌||◌, nat_lt, nat_le, List, [], ◌∷◌, ◌++◌, length, take, drop, fold, Option, Some, None, if◌then◌else◌}
 use Rattle.std.specs.List.{slice_get, list_any}
 use Rattle.std.specs.Option.{option_map_or}
+use Rattle.ccr_base.specs.Bounds.{most_empty_rounds}
 use Rattle.ccr_base.specs.declared.messages.Msg.{Msg}
 use Rattle.ccr_base.specs.declared.messages.Sent.{Sent}
 use Rattle.ccr_base.specs.declared.names.MsgId.TheVariants as names
@@ -53,7 +54,7 @@ pub data Work : Type 0 where
 -- it settles what it has in hand, then does the admissions, then drives its spots, then goes on with its work
 pub record State : Type 0 where
   pub hand : List Asked
-  pub arbiters : List ℕ
+  pub domains : List ℕ
   pub admitted : ℕ
   pub spots : List Spot
   pub phase : Phase
@@ -72,7 +73,7 @@ name_at actor state = record { actor = actor; attempt = state.attempt }
 
 -- the message that a task's post is
 abbrev pub task_message : TaskId → ℕ → Sent → Msg
-task_message task place sent = record { id = names.Task task place; port = sent.port; value = sent.value; causes = sent.causes }
+task_message task index sent = record { id = names.Task task index; port = sent.port; value = sent.value; causes = sent.causes }
 
 -- how the end of a play is told: the root is over, or the task is suspended
 abbrev pub end_ask : Task → Play → PlayEnd → Asked
@@ -87,15 +88,15 @@ play_ask task play (sent ∷ posts) = at_place places.Meter asks.Draw
 
 -- the post that was drawn for
 abbrev pub post_ask : Task → ℕ → Sent → Asked
-post_ask task place sent = at_place (places.Port sent.port) (asks.Post (task_message task.id place sent))
+post_ask task index sent = at_place (places.Port sent.port) (asks.Post (task_message task.id index sent))
 
 -- what the work asks next; nothing where it rests
 abbrev pub work_ask : ℕ → Work → Option Asked
-work_ask actor (lines place sents) = Some (line_ask actor place sents)
+work_ask actor (lines index sents) = Some (line_ask actor index sents)
 work_ask actor round = Some (at_place places.Meter asks.Left)
 work_ask actor (taking left queue more) = Some (at_place (places.Queue queue) asks.Take)
-work_ask actor (playing task place play) = Some (play_ask task play play.posts)
-work_ask actor (posting task place play sent) = Some (post_ask task place sent)
+work_ask actor (playing task index play) = Some (play_ask task play play.posts)
+work_ask actor (posting task index play sent) = Some (post_ask task index sent)
 work_ask actor (shedding task) = Some (at_place (places.Arbiter task.arbiter) (asks.Over task.id task.root hows.Shed))
 work_ask actor resting = None
 
@@ -109,9 +110,9 @@ pub data Turn : Type 0 where
 
 -- what comes first: what is owed, then admissions, then attempts, then the work
 abbrev pub turn_of : Bool → List Asked → List ℕ → List Spot → Turn
-turn_of short (asked ∷ more) arbiters spots = settle asked more
-turn_of true [] arbiters spots = stop
-turn_of false [] (arbiter ∷ arbiters) spots = admit arbiter arbiters
+turn_of short (asked ∷ more) domains spots = settle asked more
+turn_of true [] domains spots = stop
+turn_of false [] (domain ∷ domains) spots = admit domain domains
 turn_of false [] [] (spot ∷ spots) = drive spot spots
 turn_of false [] [] [] = go_on
 
@@ -121,12 +122,12 @@ spots_left state = if nat_lt state.attempt (2 ^ 32) then state.spots else []
 
 -- what the actor turns to next
 abbrev pub turn : State → Turn
-turn state = turn_of state.is_short state.hand state.arbiters (spots_left state)
+turn state = turn_of state.is_short state.hand state.domains (spots_left state)
 
 -- the ask of this turn
 abbrev pub ask_in : Parts → ℕ → State → Turn → Option Asked
 ask_in wiring actor state (settle asked more) = Some asked
-ask_in wiring actor state (admit arbiter more) = Some (at_place (places.Arbiter arbiter) asks.Admit)
+ask_in wiring actor state (admit domain more) = Some (at_place (places.Arbiter domain) asks.Admit)
 ask_in wiring actor state (drive spot more) = Some (attempt_ask (plan_of wiring spot) (name_at actor state) state.phase)
 ask_in wiring actor state go_on = work_ask actor state.work
 ask_in wiring actor state stop = None
@@ -139,29 +140,29 @@ asked wiring actor state = ask_in wiring actor state (turn state)
 
 -- the Interleave, where it isn't in the list
 abbrev pub add_arbiter : Parts → ℕ → List ℕ → List ℕ
-add_arbiter wiring arbiter arbiters = if is_interleave_number wiring arbiter && not (list_any (λ other. other == arbiter) arbiters) then arbiters ++ arbiter ∷ [] else arbiters
+add_arbiter wiring arbiter domains = if is_interleave_number wiring arbiter && not (list_any (λ other. other == arbiter) domains) then domains ++ arbiter ∷ [] else domains
 
 -- the Interleave of a dropped task, unless the run of admissions has reached its bound
 abbrev pub admit_too : Parts → State → Task → List ℕ
-admit_too wiring state task = if nat_lt state.admitted 32768 then add_arbiter wiring task.arbiter state.arbiters else state.arbiters
+admit_too wiring state task = if nat_lt state.admitted most_admitted then add_arbiter wiring task.arbiter state.domains else state.domains
 
 -- a dropped task is noted over at once, and admissions follow at its Interleave
 abbrev pub dropping : Parts → State → Task → State
-dropping wiring state task = record state { hand = over_dropped task ∷ state.hand; arbiters = admit_too wiring state task }
+dropping wiring state task = record state { hand = over_dropped task ∷ state.hand; domains = admit_too wiring state task }
 
 -- the asks in hand go on; a dropped task is noted over at once
 abbrev pub settled : Parts → State → List Asked → Reply → State
-settled wiring state more (replies.Dropped (Some task)) = record state { hand = over_dropped task ∷ more; arbiters = admit_too wiring state task }
+settled wiring state more (replies.Dropped (Some task)) = record state { hand = over_dropped task ∷ more; domains = admit_too wiring state task }
 settled wiring state more _ = record state { hand = more }
 
 -- the first Interleave is struck off
 abbrev pub strike : State → List ℕ → State
-strike state more = record state { arbiters = more }
+strike state more = record state { domains = more }
 
 -- an admitted task is put; after so many, which no run within the limits reaches, the run of admissions ends. The count
 -- begins anew with a firing and with an end, so no put of this run begins another
 abbrev pub put_admitted : State → List ℕ → Task → State
-put_admitted state more task = record state { hand = put_ask task ∷ []; admitted = state.admitted + 1; arbiters = if nat_lt (state.admitted + 1) 32768 then state.arbiters else [] }
+put_admitted state more task = record state { hand = put_ask task ∷ []; admitted = state.admitted + 1; domains = if nat_lt (state.admitted + 1) most_admitted then state.domains else [] }
 
 -- an admitted task is queued; else this domain is done
 abbrev pub after_admit : State → List ℕ → Reply → State
@@ -183,12 +184,16 @@ admissions_after wiring spot (Some task) = []
 
 -- after so many firings the drive ends
 abbrev pub driven_on : State → Spot → List Spot → List Spot
-driven_on state spot more = if nat_lt (state.fired + 1) 32768 then spot ∷ more else []
+driven_on state spot more = if nat_lt (state.fired + 1) most_fired then spot ∷ more else []
 
 -- the attempt ends with a firing; what that asks for is owed
 abbrev pub fire : Parts → ℕ → State → Spot → List Spot → Option Task → List Cut → State
 fire wiring actor state spot more task cuts =
-    record (end_attempt state (firing_hand (name_at actor state) (had_in state.phase) task cuts) (driven_on state spot more)) { fired = state.fired + 1; arbiters = admissions_after wiring spot task; admitted = 0 }
+    record (end_attempt state (firing_hand (name_at actor state) (had_in state.phase) task cuts) (driven_on state spot more)) {
+      fired = state.fired + 1;
+      domains = admissions_after wiring spot task;
+      admitted = 0;
+    }
 
 -- the attempt after a reply
 abbrev pub after_attempt : Parts → ℕ → State → Spot → List Spot → Reply → State
@@ -203,7 +208,7 @@ driving state spots = record state { spots = spots; fired = 0 }
 
 -- an empty round: rest where all posters have left, or after so many
 abbrev pub rest_or_round : Parts → State → ℕ → State
-rest_or_round wiring state left = record state { work = if (left == length wiring.posters) || nat_le 10000 (state.empty + 1) then resting else round; empty = state.empty + 1 }
+rest_or_round wiring state left = record state { work = if (left == length wiring.posters) || nat_le most_empty_rounds (state.empty + 1) then resting else round; empty = state.empty + 1 }
 
 -- the queues from this one on are still to be asked
 abbrev pub take_from : Parts → State → ℕ → ℕ → List QueuePart → State
@@ -225,11 +230,11 @@ after_take wiring state left queue more _ = take_from wiring state left (queue +
 
 -- after so many tasks a worker takes no more
 abbrev pub next_round : ℕ → Work
-next_round taken = if nat_lt taken 32768 then round else resting
+next_round taken = if nat_lt taken most_taken then round else resting
 
 -- the work goes on, and the domain of the root is asked for admissions
 abbrev pub after_over : Parts → State → Task → State
-after_over wiring state task = record state { work = next_round state.taken; arbiters = add_arbiter wiring task.arbiter state.arbiters; admitted = 0 }
+after_over wiring state task = record state { work = next_round state.taken; domains = add_arbiter wiring task.arbiter state.domains; admitted = 0 }
 
 -- a suspended task's site is driven; else the root was over
 abbrev pub after_end : Parts → State → Task → PlayEnd → State
@@ -238,18 +243,18 @@ after_end wiring state task _ = after_over wiring state task
 
 -- a post that was drawn for comes next, a task without budget is shed, and an end goes on
 abbrev pub after_play : Parts → State → Task → ℕ → Play → List Sent → Reply → State
-after_play wiring state task place play [] reply = after_end wiring state task play.end
-after_play wiring state task place play (sent ∷ posts) (replies.Drawn n) = record state { work = posting task place (record play { posts = posts }) sent }
-after_play wiring state task place play (sent ∷ posts) _ = record state { work = shedding task }
+after_play wiring state task index play [] reply = after_end wiring state task play.end
+after_play wiring state task index play (sent ∷ posts) (replies.Drawn n) = record state { work = posting task index (record play { posts = posts }) sent }
+after_play wiring state task index play (sent ∷ posts) _ = record state { work = shedding task }
 
 -- the spots at the port of the line are driven; a poster that left rests
 abbrev pub after_line : Parts → State → ℕ → List Sent → State
-after_line wiring state place [] = record state { work = resting }
-after_line wiring state place (sent ∷ sents) = record (driving state (spots_at wiring sent.port)) { work = lines (place + 1) sents }
+after_line wiring state index [] = record state { work = resting }
+after_line wiring state index (sent ∷ sents) = record (driving state (spots_at wiring sent.port)) { work = lines (index + 1) sents }
 
 -- the spots at the port of the post are driven, and the play goes on behind it
 abbrev pub after_posting : Parts → State → Task → ℕ → Play → Sent → State
-after_posting wiring state task place play sent = record (driving state (spots_at wiring sent.port)) { work = playing task (place + 1) play }
+after_posting wiring state task index play sent = record (driving state (spots_at wiring sent.port)) { work = playing task (index + 1) play }
 
 -- the queues are asked, where the meter said what is left
 abbrev pub after_round : Parts → State → Reply → State
@@ -258,18 +263,18 @@ after_round wiring state _ = state
 
 -- the work after a reply
 abbrev pub after_work : Parts → State → Work → Reply → State
-after_work wiring state (lines place sents) reply = after_line wiring state place sents
+after_work wiring state (lines index sents) reply = after_line wiring state index sents
 after_work wiring state round reply = after_round wiring state reply
 after_work wiring state (taking left queue more) reply = after_take wiring state left queue more reply
-after_work wiring state (playing task place play) reply = after_play wiring state task place play play.posts reply
-after_work wiring state (posting task place play sent) reply = after_posting wiring state task place play sent
+after_work wiring state (playing task index play) reply = after_play wiring state task index play play.posts reply
+after_work wiring state (posting task index play sent) reply = after_posting wiring state task index play sent
 after_work wiring state (shedding task) reply = after_over wiring state task
 after_work wiring state resting reply = state
 
 -- the state after the reply to this turn's ask
 abbrev pub after_in : Parts → ℕ → State → Turn → Reply → State
 after_in wiring actor state (settle asked more) reply = settled wiring state more reply
-after_in wiring actor state (admit arbiter more) reply = after_admit state more reply
+after_in wiring actor state (admit domain more) reply = after_admit state more reply
 after_in wiring actor state (drive spot more) reply = after_attempt wiring actor state spot more reply
 after_in wiring actor state go_on reply = after_work wiring state state.work reply
 after_in wiring actor state stop reply = state
@@ -295,7 +300,7 @@ work_of wiring actor = option_map_or (λ (p : PosterPart). lines 0 p.posts) (sli
 
 -- an actor with this work that has made no step
 abbrev pub fresh_state : Work → State
-fresh_state work = record { hand = []; arbiters = []; admitted = 0; spots = []; phase = booking; fired = 0; work = work; attempt = 0; taken = 0; empty = 0; is_short = false }
+fresh_state work = record { hand = []; domains = []; admitted = 0; spots = []; phase = booking; fired = 0; work = work; attempt = 0; taken = 0; empty = 0; is_short = false }
 
 -- before its first step
 abbrev pub start : Parts → ℕ → State
@@ -308,7 +313,10 @@ after_all wiring actor state given = fold (after wiring actor) state given
 -- the actor after these replies, if it found no memory after so many steps
 abbrev pub state_after : Parts → ℕ → Option ℕ → List Reply → State
 state_after wiring actor None given = after_all wiring actor (start wiring actor) given
-state_after wiring actor (Some n) given = if nat_le n (length given) then after_all wiring actor (shorten wiring actor (after_all wiring actor (start wiring actor) (take n given))) (drop n given) else after_all wiring actor (start wiring actor) given
+state_after wiring actor (Some n) given =
+    if nat_le n (length given)
+    then after_all wiring actor (shorten wiring actor (after_all wiring actor (start wiring actor) (take n given))) (drop n given)
+    else after_all wiring actor (start wiring actor) given
 
 -- what the actor asks after these replies
 abbrev pub next : Parts → ℕ → Option ℕ → List Reply → Option Asked

@@ -1,5 +1,6 @@
 -- What the course of an actor stands for, and what holds of its attempt.
 use Rattle.std.specs.Prelude.{◌≡◌, ◌⊎◌, ◌==◌, not, ◌<◌, ◌+◌, ◌^◌, ℕ, Bool, true, false, List, [], ◌∷◌, ◌++◌, length, Option, Some, None, Result, Ok, Err, IsSome, OnErr, if◌then◌else◌}
+use Rattle.ccr_base.specs.Bounds.{most_empty_rounds}
 use Rattle.ccr_base.specs.declared.list.OutOfMemory.{OutOfMemory}
 use Rattle.ccr_base.specs.declared.names.Spot.{Spot}
 use Rattle.ccr_base.specs.declared.names.TaskId.{TaskId}
@@ -17,7 +18,7 @@ use Rattle.ccr_claim.specs.declared.outcomes.Progress.{Progress}
 use Rattle.ccr_claim.specs.declared.outcomes.Progress.TheVariants as progresses
 use Rattle.ccr_claim.specs.declared.outcomes.Why.{Why}
 use Rattle.ccr_claim.specs.declared.outcomes.Why.TheVariants as whys
-use Rattle.ccr_claim.specs.Asks.{MaybeReply, due_of, fits, may_come}
+use Rattle.ccr_claim.specs.Asks.{AreSettling, MaybeReply, due_of, fits, may_come}
 use Rattle.ccr_claim.specs.Attempts.{AttemptState, Phase, booking, attempt_ask, put_asks, over_dropped}
 use Rattle.ccr_claim.specs.Lines.{IsLineOf}
 use Rattle.ccr_actor.specs.declared.course.Course.{Course}
@@ -27,11 +28,10 @@ use Rattle.ccr_actor.specs.declared.work.Playing.{Playing}
 use Rattle.ccr_actor.specs.declared.work.Work.{Work as Works}
 use Rattle.ccr_actor.specs.declared.work.Work.TheVariants as works
 use Rattle.ccr_actor.specs.Acting.{Acting, Asking, quiet, settling, going, kept}
-use Rattle.ccr_actor.specs.Actors.{State, spots_left, settled, after, in_attempt, end_attempt, driven_on, after_attempt, shorten}
+use Rattle.ccr_actor.specs.Actors.{State, most_admitted, most_fired, most_taken, spots_left, settled, after, in_attempt, end_attempt, driven_on, after_attempt, shorten}
 use Rattle.ccr_actor.specs.Inside.{work_of}
 use Rattle.ccr_actor.specs.Needs.{attempt_needs, settling_needs, work_needs, work_unnumbered}
 use Rattle.ccr_actor.specs.Plans.{plan_of}
-use Rattle.ccr_actor.specs.Hands.{AreSettling}
 
 -- what the attempt owes; nothing where there is none
 abbrev pub hand_of : Option AttemptState → List Asked
@@ -62,7 +62,7 @@ dropped_asks (Some task) = over_dropped task ∷ []
 abbrev pub state_of : Course → State
 state_of course = record {
   hand = dropped_asks course.dropped ++ (hand_of course.attempt ++ put_asks course.put);
-  arbiters = course.arbiters.items;
+  domains = course.domains.items;
   admitted = course.admitted;
   spots = course.spots;
   phase = phase_of course.attempt;
@@ -126,7 +126,7 @@ pub record IsUnderWay (course : Course) : Type 0 where
   pub runs : Runs course.wiring.now (record { actor = course.number; attempt = course.count }) course.spots course.attempt
   pub dropped : course.dropped ≡ None
   pub put : course.put ≡ None
-  pub arbiters : course.arbiters.items ≡ []
+  pub domains : course.domains.items ≡ []
   pub count : course.count < 2 ^ 32
 
 -- what the actor owes where it finds no memory
@@ -144,7 +144,7 @@ waiting_at wiring spot waits = if waits then domain_of_spot wiring spot ∷ [] e
 
 -- a firing, after which this is in hand
 abbrev pub fired_on : Parts → State → Spot → List Spot → Bool → List Asked → State
-fired_on wiring state spot more waits hand = record (end_attempt state hand (driven_on state spot more)) { fired = state.fired + 1; arbiters = waiting_at wiring spot waits; admitted = 0 }
+fired_on wiring state spot more waits hand = record (end_attempt state hand (driven_on state spot more)) { fired = state.fired + 1; domains = waiting_at wiring spot waits; admitted = 0 }
 
 -- it runs on in this phase
 pub record GoesOn (wiring : Parts) (name : TaskId) (spot : Spot) (state target : State) (attempt : AttemptState) : Type 0 where
@@ -264,9 +264,9 @@ pub record IsFree (course : Course) : Type 0 where
 
 -- the part that asked
 abbrev pub IsAsked : Course → Part → Due → Type 0
-IsAsked course parts.Admit due = IsFree course × (0 < length course.arbiters.items)
+IsAsked course parts.Admit due = IsFree course × (0 < length course.domains.items)
 IsAsked course parts.Drive due = IsUnderWay course × ((course.short ≡ false) × (due ≡ due_next course.attempt))
-IsAsked course parts.Work due = IsFree course × ((course.arbiters.items ≡ []) × (spots_left (state_of course) ≡ []))
+IsAsked course parts.Work due = IsFree course × ((course.domains.items ≡ []) × (spots_left (state_of course) ≡ []))
 IsAsked course _ due = IsSettling course due
 
 -- a reply to an ask of the hand comes; running out of memory doesn't
@@ -276,9 +276,9 @@ IsToldSo part due (Err refused) = ⊥
 
 -- the answer is one to the ask of this part
 abbrev pub IsAnswered : Course → Part → MaybeReply → Type 0
-IsAnswered course parts.Admit answer = IsFree course × ((0 < length course.arbiters.items) × (due_at course.attempt ≡ dues.Nothing))
+IsAnswered course parts.Admit answer = IsFree course × ((0 < length course.domains.items) × (due_at course.attempt ≡ dues.Nothing))
 IsAnswered course parts.Drive answer = IsUnderWay course × ((course.short ≡ false) × ((due_at course.attempt ≡ due_next course.attempt) × (may_come (due_at course.attempt) answer ≡ true)))
-IsAnswered course parts.Work answer = IsFree course × ((course.arbiters.items ≡ []) × ((spots_left (state_of course) ≡ []) × (due_at course.attempt ≡ dues.Nothing)))
+IsAnswered course parts.Work answer = IsFree course × ((course.domains.items ≡ []) × ((spots_left (state_of course) ≡ []) × (due_at course.attempt ≡ dues.Nothing)))
 IsAnswered course part answer = (course.dropped ≡ None) × (IsPast course.attempt × IsToldSo part (due_at course.attempt) answer)
 
 -- the state after the answer; running out of memory changes nothing yet
@@ -318,14 +318,14 @@ IsLine _ causes = Unit {0}
 pub record IsDriving (course : Course) : Type 0 where
   pub idle : IsIdle course
   pub short : course.short ≡ false
-  pub arbiters : course.arbiters.items ≡ []
+  pub domains : course.domains.items ≡ []
   pub spots : not (length (spots_left (state_of course)) == 0) ≡ true
 
 -- the work goes on next
 pub record IsWorking (course : Course) : Type 0 where
   pub idle : IsIdle course
   pub short : course.short ≡ false
-  pub arbiters : course.arbiters.items ≡ []
+  pub domains : course.domains.items ≡ []
   pub spots : not (length (spots_left (state_of course)) == 0) ≡ false
 
 -- what is asked next is made ready
@@ -337,27 +337,27 @@ pub record IsReady (course : Course) : Type 0 where
 -- ---- counts
 
 -- fewer than so many, where there is something to go on with
-abbrev pub AreFew : {A : Type 0} → List A → ℕ → Type 0
-AreFew [] count = Unit {0}
-AreFew (one ∷ more) count = count < 32768
+abbrev pub AreFew : {A : Type 0} → ℕ → List A → ℕ → Type 0
+AreFew most [] count = Unit {0}
+AreFew most (one ∷ more) count = count < most
 
 -- a drive has fewer firings, and a run of admissions fewer admissions
 pub record IsBounded (state : State) : Type 0 where
-  pub spots : AreFew state.spots state.fired
-  pub arbiters : AreFew state.arbiters state.admitted
+  pub spots : AreFew most_fired state.spots state.fired
+  pub domains : AreFew most_admitted state.domains state.admitted
 
 pub record IsPlayCounted (p : Playing) (posts : ℕ) : Type 0 where
   pub segment : p.segment ≡ segment_of p.task.spot
-  pub few : p.place + posts < 2 ^ 32
+  pub few : p.index + posts < 2 ^ 32
 
 -- the counts of what an actor does stay within their types
 abbrev pub IsCounted : Works → ℕ → ℕ → Type 0
-IsCounted (works.Lines l) taken empty = l.place + length l.left < 2 ^ 32
-IsCounted works.Round taken empty = (taken < 32768) × (empty < 10000)
-IsCounted (works.Taking left queue more) taken empty = (queue + length more.now + 1 < 2 ^ 32) × ((taken < 32768) × (empty < 10000))
-IsCounted (works.Playing p) taken empty = IsPlayCounted p (length p.posts.items) × (empty < 10000)
-IsCounted (works.Posting p sent) taken empty = IsPlayCounted p (length p.posts.items + 1) × (empty < 10000)
-IsCounted (works.Shedding task) taken empty = empty < 10000
+IsCounted (works.Lines l) taken empty = l.index + length l.left < 2 ^ 32
+IsCounted works.Round taken empty = (taken < most_taken) × (empty < most_empty_rounds)
+IsCounted (works.Taking left queue more) taken empty = (queue + length more.now + 1 < 2 ^ 32) × ((taken < most_taken) × (empty < most_empty_rounds))
+IsCounted (works.Playing p) taken empty = IsPlayCounted p (length p.posts.items) × (empty < most_empty_rounds)
+IsCounted (works.Posting p sent) taken empty = IsPlayCounted p (length p.posts.items + 1) × (empty < most_empty_rounds)
+IsCounted (works.Shedding task) taken empty = empty < most_empty_rounds
 IsCounted works.Resting taken empty = Unit {0}
 
 -- ---- the actor

@@ -17,7 +17,10 @@ IsShortFrom (Some n) steps short = (n ≤ length steps) × (short ≡ true)
 -- these are the steps of the actor so far: each was the next one, and the state follows from their replies and from where
 -- it found no memory
 abbrev pub Follows : Parts → ℕ → List Step → Acting → Type 0
-Follows wiring actor steps a = (lack : Option ℕ) × (AreNext wiring actor lack [] steps × ((a ≡ at_state wiring actor (state_after wiring actor lack (replies_of steps))) × IsShortFrom lack steps a.state.is_short))
+Follows wiring actor steps a =
+    (lack : Option ℕ)
+    × (AreNext wiring actor lack [] steps
+    × ((a ≡ at_state wiring actor (state_after wiring actor lack (replies_of steps))) × IsShortFrom lack steps a.state.is_short))
 
 -- a reply to what it asks is one more step
 abbrev pub GoesOn : Parts → ℕ → List Step → Acting → Acting → Asked → Reply → Type 0

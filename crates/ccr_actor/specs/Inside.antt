@@ -40,15 +40,15 @@ play_of p = record { posts = p.posts.items; end = p.end; causes = p.causes }
 
 -- the work of one who plays
 abbrev pub playing_of : Playing → Work
-playing_of p = playing p.task p.place (play_of p)
+playing_of p = playing p.task p.index (play_of p)
 
 -- the work of one who was given budget for this post
 abbrev pub posting_of : Playing → Sent → Work
-posting_of p sent = posting p.task p.place (play_of p) sent
+posting_of p sent = posting p.task p.index (play_of p) sent
 
 -- what it does between drives
 abbrev pub work_of : Works → Work
-work_of (works.Lines l) = lines l.place l.left
+work_of (works.Lines l) = lines l.index l.left
 work_of works.Round = round
 work_of (works.Taking left queue more) = taking left queue more.now
 work_of (works.Playing p) = playing_of p

@@ -5,7 +5,6 @@ pub mod Needs
 pub mod Inside
 pub mod Driven
 pub mod Courses
-pub mod Hands
 pub mod Nets
 pub mod Following
 pub mod Within

@@ -11,7 +11,7 @@ use Rattle.ccr_claim.specs.declared.asks.Reply.{Reply}
 use Rattle.ccr_claim.specs.declared.asks.Reply.TheVariants as replies
 use Rattle.ccr_claim.specs.Attempts.{Phase, booking, claiming}
 use Rattle.ccr_actor.specs.Acting.{Acting, Asking, quiet, settling, going, state_after_reply}
-use Rattle.ccr_actor.specs.Actors.{State, Work, lines, round, taking, playing, posting, shedding, resting, Turn, settle, admit, drive, go_on, stop, turn, play_in}
+use Rattle.ccr_actor.specs.Actors.{most_admitted, State, Work, lines, round, taking, playing, posting, shedding, resting, Turn, settle, admit, drive, go_on, stop, turn, play_in}
 use Rattle.ccr_wiring.specs.Takers.{spots_at}
 use Rattle.ccr_actor.specs.Plans.{is_interleave_number}
 
@@ -24,11 +24,11 @@ has_any (one ∷ more) = true
 
 -- whether the Interleave is added to the run of admissions
 abbrev pub adds_arbiter : Parts → ℕ → List ℕ → Bool
-adds_arbiter wiring arbiter arbiters = is_interleave_number wiring arbiter && not (list_any (λ other. other == arbiter) arbiters)
+adds_arbiter wiring arbiter domains = is_interleave_number wiring arbiter && not (list_any (λ other. other == arbiter) domains)
 
 -- that of a dropped task is, unless the run of admissions has reached its bound
 abbrev pub settling_needs : Parts → State → Reply → Bool
-settling_needs wiring state (replies.Dropped (Some task)) = nat_lt state.admitted 32768 && adds_arbiter wiring task.arbiter state.arbiters
+settling_needs wiring state (replies.Dropped (Some task)) = nat_lt state.admitted most_admitted && adds_arbiter wiring task.arbiter state.domains
 settling_needs wiring state _ = false
 
 -- an attempt that runs on may make its commit ready; where a firing waits its domain is added
@@ -41,7 +41,7 @@ attempt_needs _ = false
 -- the site of a suspended task is to be driven; the Interleave of one that is over is added
 abbrev pub end_needs : Parts → State → Task → PlayEnd → Bool
 end_needs wiring state task (plays.Yield site) = true
-end_needs wiring state task _ = adds_arbiter wiring task.arbiter state.arbiters
+end_needs wiring state task _ = adds_arbiter wiring task.arbiter state.domains
 
 -- a draw needs none, the end of a play may
 abbrev pub play_needs : Parts → State → Task → PlayEnd → List Sent → Bool
@@ -60,18 +60,18 @@ take_needs _ = false
 
 -- what the work keeps of a reply
 abbrev pub work_needs : Parts → State → Work → Reply → Bool
-work_needs wiring state (lines place sents) reply = line_needs wiring sents
+work_needs wiring state (lines index sents) reply = line_needs wiring sents
 work_needs wiring state round reply = false
 work_needs wiring state (taking left queue more) reply = take_needs reply
-work_needs wiring state (playing task place play) reply = play_needs wiring state task play.end play.posts
-work_needs wiring state (posting task place play sent) reply = has_any (spots_at wiring sent.port)
-work_needs wiring state (shedding task) reply = adds_arbiter wiring task.arbiter state.arbiters
+work_needs wiring state (playing task index play) reply = play_needs wiring state task play.end play.posts
+work_needs wiring state (posting task index play sent) reply = has_any (spots_at wiring sent.port)
+work_needs wiring state (shedding task) reply = adds_arbiter wiring task.arbiter state.domains
 work_needs wiring state resting reply = false
 
 -- what the turn whose reply it is keeps of it
 abbrev pub turn_needs : Parts → State → Turn → Reply → Bool
 turn_needs wiring state (settle one more) reply = settling_needs wiring state reply
-turn_needs wiring state (admit arbiter more) reply = false
+turn_needs wiring state (admit domain more) reply = false
 turn_needs wiring state (drive spot more) reply = attempt_needs reply
 turn_needs wiring state go_on reply = work_needs wiring state state.work reply
 turn_needs wiring state stop reply = false
@@ -91,7 +91,7 @@ post_needs (sent ∷ sents) = has_any sent.causes
 
 -- the next line of a script is such a post
 abbrev pub next_work_needs : Work → Bool
-next_work_needs (lines place sents) = post_needs sents
+next_work_needs (lines index sents) = post_needs sents
 next_work_needs _ = false
 
 -- an attempt begins with the plan at its spot

@@ -1,8 +1,9 @@
 -- Lists of an actor's steps at a net: which are proper, and which ask may follow.
-use Rattle.std.specs.Prelude.{◌≡◌, ◌^◌, ◌-◌, ℕ, List, [], ◌∷◌, ◌++◌, map, Option, Some, nat_lt, if◌then◌else◌}
+use Rattle.std.specs.Prelude.{◌≡◌, ◌^◌, ◌-◌, ℕ, true, List, [], ◌∷◌, ◌++◌, map, Option, Some, nat_lt, if◌then◌else◌}
 use Rattle.ccr_wiring.specs.declared.parts.Parts.{Parts}
 use Rattle.ccr_claim.specs.declared.asks.Asked.{Asked}
 use Rattle.ccr_claim.specs.declared.asks.Reply.{Reply}
+use Rattle.ccr_claim.specs.Asks.{due_of, fits}
 use Rattle.ccr_actor.specs.Actors.{next}
 
 -- a step: an ask, and what it was replied
@@ -17,6 +18,11 @@ counted n = if nat_lt n (2 ^ 64) then n else 2 ^ 64 - 1
 -- the replies of the steps
 abbrev pub replies_of : List Step → List Reply
 replies_of steps = map (λ (step : Step). step.reply) steps
+
+-- each reply is one that its ask may have
+abbrev pub AreFitting : List Step → Type 0
+AreFitting [] = Unit {0}
+AreFitting (step ∷ steps) = (fits (due_of step.asked.ask) step.reply ≡ true) × AreFitting steps
 
 -- each step behind the past ones is what the actor asks next, if it found no memory after so many steps in all
 abbrev pub AreNext : Parts → ℕ → Option ℕ → List Reply → List Step → Type 0

@@ -1,6 +1,5 @@
 -- What the wiring says of attempts: their plans, and the spots to drive.
-use Rattle.std.specs.Prelude.{ℕ, Bool, false, List, [], ◌∷◌}
-use Rattle.std.specs.List.{slice_get}
+use Rattle.std.specs.Prelude.{ℕ, List, [], ◌∷◌}
 use Rattle.std.specs.Option.{option_map_or}
 use Rattle.ccr_base.specs.declared.names.Spot.{Spot}
 use Rattle.ccr_base.specs.declared.names.Spot.TheVariants.{Branch, Site}
@@ -8,10 +7,9 @@ use Rattle.ccr_base.specs.declared.patterns.Pattern.{Pattern}
 use Rattle.ccr_base.specs.declared.patterns.Pattern.TheVariants.{Slots}
 use Rattle.ccr_base.specs.declared.policies.Policy.{Policy}
 use Rattle.ccr_base.specs.declared.policies.Policy.TheVariants.{Throttle}
-use Rattle.ccr_wiring.specs.declared.parts.ArbiterPart.{ArbiterPart}
 use Rattle.ccr_wiring.specs.declared.parts.Parts.{Parts}
-use Rattle.ccr_wiring.specs.Groups.{is_interleave}
 use Rattle.ccr_wiring.specs.Takers.{branches_of}
+pub use Rattle.ccr_wiring.specs.Wirings.{is_interleave_number}
 use Rattle.ccr_wiring.specs.Wirings.{Placement, placement, site_port, queue_of_spot, domain_of_spot}
 use Rattle.ccr_claim.specs.declared.plan.ClaimPlan.{ClaimPlan}
 use Rattle.ccr_claim.specs.Plans.{any_slot}
@@ -37,7 +35,3 @@ plan_of wiring spot = record { spot = spot; pattern = pattern_at wiring spot; qu
 abbrev pub throttled : Parts → ℕ → Policy → List Spot
 throttled wiring queue (Throttle n) = branches_of wiring queue
 throttled wiring queue _ = []
-
--- whether the domain of this number is of Interleaves: so is the arbiter of its number, the least of the domain
-abbrev pub is_interleave_number : Parts → ℕ → Bool
-is_interleave_number wiring arbiter = option_map_or (λ (part : ArbiterPart). is_interleave part.kind) (slice_get wiring.arbiters arbiter) false

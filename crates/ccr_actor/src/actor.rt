@@ -176,7 +176,7 @@ fn begin(alloc: Global, wiring: &Wiring, number: ActorNo) -> Result<Actor<'_>, O
         attempt: None,
         put: None,
         dropped: None,
-        arbiters: VecDeque::new(alloc),
+        domains: VecDeque::new(alloc),
         admitted: 0,
         spots: Driven::none(),
         fired: 0,

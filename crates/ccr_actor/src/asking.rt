@@ -89,7 +89,7 @@ impl Course<'_> {
     /// An attempt at the first spot begins, unless one runs.
     fn begin_attempt(&mut self) -> Result<(), OutOfMemory>
         requires idle { IsIdle self.old }
-        requires arbiters { self.old.arbiters.items ≡ [] }
+        requires domains { self.old.domains.items ≡ [] }
         requires spots { not (length (spots_left (state_of self.old)) == 0) ≡ true }
         requires short { self.old.short ≡ false }
         requires attempt { IsPast self.old.attempt ⊎ IsUnderWay self.old }
@@ -156,7 +156,7 @@ impl Course<'_> {
         ensures work { self.new.work ≡ self.old.work }
         ensures beside { IsBeside self.old self.new }
     {
-        if self.has_anything() || !self.arbiters.is_empty() {
+        if self.has_anything() || !self.domains.is_empty() {
             return Ok(());
         }
         if self.drives() {
@@ -176,7 +176,7 @@ impl Course<'_> {
         if self.short {
             return true;
         }
-        self.arbiters.is_empty() && !self.drives() && matches!(self.work, Work::Resting)
+        self.domains.is_empty() && !self.drives() && matches!(self.work, Work::Resting)
     }
 
     /// Moves out what is asked next, and tells which part asks.
@@ -199,9 +199,9 @@ impl Course<'_> {
         if self.short {
             return None;
         }
-        if let Some(arbiter) = self.arbiters.front() {
+        if let Some(domain) = self.domains.front() {
             let asked = Asked {
-                place: Place::Arbiter(*arbiter),
+                place: Place::Arbiter(*domain),
                 ask: Ask::Admit,
             };
             return Some((Part::Admit, asked));

@@ -1,7 +1,8 @@
 //! How many actors a run has.
 
-ghost use Rattle.std.specs.Prelude.{◌≡◌, ◌≤◌, ◌+◌, length};
+ghost use Rattle.std.specs.Prelude.{◌≡◌, ◌≤◌};
 ghost use Rattle.ccr_base.specs.Bounds.{most_actors, most_workers};
+ghost use Rattle.ccr_wiring.specs.Actors.{actor_count};
 ghost use Rattle.ccr_wiring.specs.Valid.{IsValid};
 
 use ccr_wiring::{Wiring, valid_wirings_are_sound};
@@ -9,7 +10,7 @@ use ccr_wiring::{Wiring, valid_wirings_are_sound};
 /// The posters and so many workers, which have the numbers behind them. So it is the number of the first actor that is neither.
 pub fn actor_count(wiring: &Wiring, workers: u32) -> u32
     requires { workers ≤ most_workers }
-    ensures count { result ≡ length wiring.now.posters + workers }
+    ensures count { result ≡ actor_count wiring.now workers }
     ensures most { result ≤ most_actors }
     ensures valid { IsValid wiring.now }
 {

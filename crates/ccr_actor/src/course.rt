@@ -1,14 +1,11 @@
 //! Where an actor is in its course: what it has in hand, its admissions, its drive, and its work.
 
-ghost use Rattle.std.specs.Prelude.{◌≡◌, ◌<◌, ◌==◌, ◌&&◌, ◌^◌, drop, not, IfOk, IsTrue, OnOk, OnErr, None, Some, length};
-ghost use Rattle.std.specs.List.{list_any};
-ghost use Rattle.ccr_claim.specs.Inside.{IsFirst};
+ghost use Rattle.std.specs.Prelude.{◌≡◌, ◌<◌, ◌==◌, ◌&&◌, drop, not, IsTrue, OnOk, OnErr, None, Some, length};
 ghost use Rattle.ccr_actor.specs.Actors.{add_arbiter, after_admit, most_admitted};
 ghost use Rattle.ccr_actor.specs.Courses.{state_of, hand_of, IsBeside, IsIdle};
 ghost use Rattle.ccr_actor.specs.Needs.{adds_arbiter};
 
 use crate::driven::Driven;
-use crate::wired::is_interleave_number;
 use crate::work::Work;
 use ccr_base::{ActorNo, ArbiterNo, CauseNo, List, OutOfMemory, Task};
 use ccr_claim::{Attempt, Reply};
@@ -38,7 +35,7 @@ pub struct Course<'w> {
     /// A dropped task that is to be noted over first.
     pub dropped: Option<Task>,
     /// The Interleaves of the run of admissions.
-    pub arbiters: VecDeque<ArbiterNo>,
+    pub domains: VecDeque<ArbiterNo>,
     pub admitted: u32,
     /// The spots that are driven.
     pub spots: Driven<'w>,
@@ -79,15 +76,15 @@ impl Course<'_> {
 
     /// Adds the Interleave, where it isn't in the run of admissions.
     pub fn add_arbiter(&mut self, arbiter: ArbiterNo) -> Result<(), OutOfMemory>
-        ensures ok { OnOk result (state_of self.new ≡ record (state_of self.old) { arbiters = add_arbiter self.old.wiring.now arbiter self.old.arbiters.items }) }
+        ensures ok { OnOk result (state_of self.new ≡ record (state_of self.old) { domains = add_arbiter self.old.wiring.now arbiter self.old.domains.items }) }
         ensures err { OnErr result (state_of self.new ≡ state_of self.old) }
-        ensures needs { OnErr result (IsTrue (adds_arbiter self.old.wiring.now arbiter self.old.arbiters.items)) }
+        ensures needs { OnErr result (IsTrue (adds_arbiter self.old.wiring.now arbiter self.old.domains.items)) }
         ensures attempt { self.new.attempt ≡ self.old.attempt }
         ensures work { self.new.work ≡ self.old.work }
         ensures beside { IsBeside self.old self.new }
     {
-        if is_interleave_number(self.wiring, arbiter) && !self.arbiters.contains(&arbiter) {
-            self.arbiters.push_back(arbiter)?;
+        if self.wiring.is_interleave_number(arbiter) && !self.domains.contains(&arbiter) {
+            self.domains.push_back(arbiter)?;
         }
         Ok(())
     }
@@ -96,8 +93,8 @@ impl Course<'_> {
     pub fn admitted(&mut self, reply: Reply)
         requires idle { IsIdle self.old }
         requires few { self.old.admitted < most_admitted }
-        requires first { 0 < length self.old.arbiters.items }
-        ensures state { state_of self.new ≡ after_admit (state_of self.old) (drop 1 self.old.arbiters.items) reply }
+        requires first { 0 < length self.old.domains.items }
+        ensures state { state_of self.new ≡ after_admit (state_of self.old) (drop 1 self.old.domains.items) reply }
         ensures attempt { self.new.attempt ≡ self.old.attempt }
         ensures work { self.new.work ≡ self.old.work }
         ensures beside { IsBeside self.old self.new }
@@ -106,10 +103,10 @@ impl Course<'_> {
             self.put = Some(task);
             self.admitted += 1;
             if self.admitted >= MOST {
-                self.arbiters.clear();
+                self.domains.clear();
             }
         } else {
-            self.arbiters.pop_front();
+            self.domains.pop_front();
         }
     }
 }

@@ -41,10 +41,10 @@ impl Course<'_> {
             self.spots = Driven::none();
         }
         self.admitted = 0;
-        self.arbiters.clear();
+        self.domains.clear();
         if waits {
-            let arbiter = domain_of_spot(self.wiring, spot);
-            self.arbiters.push_back(arbiter)?;
+            let domain = domain_of_spot(self.wiring, spot);
+            self.domains.push_back(domain)?;
         }
         Ok(())
     }

@@ -4,10 +4,9 @@ ghost use Rattle.std.specs.Prelude.{◌≡◌, ◌↔◌, ◌≤◌, ℕ, List, 
 ghost use Rattle.ccr_wiring.specs.declared.parts.Parts.{Parts};
 ghost use Rattle.ccr_claim.specs.declared.asks.Asked.{Asked};
 ghost use Rattle.ccr_claim.specs.declared.asks.Reply.{Reply};
-ghost use Rattle.ccr_claim.specs.Asks.{is_settling};
+ghost use Rattle.ccr_claim.specs.Asks.{AreSettling, is_settling};
 ghost use Rattle.ccr_base.specs.declared.list.OutOfMemory.{OutOfMemory};
 ghost use Rattle.ccr_actor.specs.Actors.{next, state_after};
-ghost use Rattle.ccr_actor.specs.Hands.{AreSettling};
 ghost use Rattle.ccr_actor.specs.Acting.{Acting, is_at_rest, next as asked_by, started};
 ghost use Rattle.ccr_actor.specs.Nets.{Step, IsProper, replies_of};
 ghost use Rattle.ccr_actor.specs.Following.{Follows, GoesOn, LacksNothing, OfLong, OnlySettles, StaysThere};

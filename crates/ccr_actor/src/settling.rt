@@ -100,7 +100,7 @@ impl Course<'_> {
         ensures ok { OnOk result (kept (state_of self.new) ≡ kept (dropping self.old.wiring.now (state_of self.old) task)) }
         ensures err { OnErr result ((state_of self.new).hand ≡ over_dropped task ∷ (state_of self.old).hand) }
         ensures long { OnErr result (self.old.short ≡ false) }
-        ensures needs { OnErr result (IsTrue (nat_lt self.old.admitted most_admitted && adds_arbiter self.old.wiring.now task.arbiter self.old.arbiters.items)) }
+        ensures needs { OnErr result (IsTrue (nat_lt self.old.admitted most_admitted && adds_arbiter self.old.wiring.now task.arbiter self.old.domains.items)) }
         ensures attempt { self.new.attempt ≡ self.old.attempt }
         ensures work { self.new.work ≡ self.old.work }
         ensures beside { IsBeside self.old self.new }

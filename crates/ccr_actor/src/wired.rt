@@ -4,32 +4,15 @@ ghost use Rattle.std.specs.Prelude.{◌≡◌, IfOk};
 ghost use Rattle.ccr_wiring.specs.Wirings.{segment_of, policy_of, queue_of_spot, domain_of_spot};
 ghost use Rattle.ccr_claim.specs.Attempts.{begun};
 ghost use Rattle.ccr_actor.specs.Actors.{play_in};
-ghost use Rattle.ccr_actor.specs.Plans.{one_of, pattern_at, plan_of, throttled, is_interleave_number};
+ghost use Rattle.ccr_actor.specs.Plans.{one_of, pattern_at, plan_of, throttled};
 
 use ccr_base::{
     ArbiterNo, List, OutOfMemory, Pattern, Policy, PortNo, Pred, QueueNo, Slot, Spot, Task, TaskId,
 };
 use ccr_claim::{Attempt, ClaimPlan};
 use ccr_handler::{Play, branch_play};
-use ccr_wiring::{Kind, Wiring, branch_of};
+use ccr_wiring::{Wiring, branch_of};
 use std::alloc::Global;
-
-fn copy_pattern(alloc: Global, pattern: &Pattern) -> Result<Pattern, OutOfMemory>
-    ensures { IfOk result (λ copied. copied ≡ pattern.now) }
-{
-    match pattern {
-        Pattern::Slots(slots) => Ok(Pattern::Slots(slots.copy(alloc)?)),
-        Pattern::Gather {
-            total,
-            first,
-            second,
-        } => Ok(Pattern::Gather {
-            total: *total,
-            first: *first,
-            second: *second,
-        }),
-    }
-}
 
 /// One message of the port.
 fn one_of(alloc: Global, port: PortNo) -> Result<Pattern, OutOfMemory>
@@ -51,7 +34,7 @@ fn pattern_at(alloc: Global, wiring: &Wiring, spot: Spot) -> Result<Pattern, Out
 {
     match spot {
         Spot::Branch(branch) => match wiring.placement(branch) {
-            Some(placement) => copy_pattern(alloc, &placement.branch.pattern),
+            Some(placement) => placement.branch.pattern.copy(alloc),
             None => Ok(Pattern::Slots(List::new(alloc))),
         },
         Spot::Site(branch, site) => match wiring.site_port(branch, site) {
@@ -126,7 +109,7 @@ fn begin(
         None => {
             let plan = ClaimPlan {
                 spot,
-                pattern: copy_pattern(alloc, pattern)?,
+                pattern: pattern.copy(alloc)?,
                 queue,
                 arbiter,
             };
@@ -142,16 +125,6 @@ pub fn throttled(wiring: &Wiring, queue: QueueNo) -> &[Spot]
     match wiring.policy_of(queue) {
         Policy::Throttle(_) => wiring.branches_of(queue),
         _ => &[],
-    }
-}
-
-/// Whether the domain of this number is of Interleaves.
-pub fn is_interleave_number(wiring: &Wiring, arbiter: ArbiterNo) -> bool
-    ensures { result ≡ is_interleave_number wiring.now arbiter }
-{
-    match wiring.parts().arbiters.as_slice().get(arbiter as usize) {
-        Some(part) => matches!(part.kind, Kind::Interleave),
-        None => false,
     }
 }
 

@@ -8,7 +8,7 @@ ghost use Rattle.ccr_actor.specs.Inside.{how_over, play_of, playing_of, over_ask
 
 use ccr_base::{CauseNo, How, List, Msg, MsgId, Place, Sent, Task};
 use ccr_claim::{Ask, Asked, Lines};
-use ccr_handler::{Play, PlayEnd};
+use ccr_handler::PlayEnd;
 use ccr_wiring::{QueuePart, branch_of};
 use std::alloc::Global;
 use std::collections::VecDeque;
@@ -20,8 +20,8 @@ pub struct Playing {
     pub task: Task,
     /// The number of the task's segment.
     pub segment: u32,
-    /// How many posts are made.
-    pub place: u32,
+    /// That of the next post: how many are made.
+    pub index: u32,
     /// The posts that are left.
     pub posts: VecDeque<Sent>,
     pub end: PlayEnd,
@@ -74,8 +74,8 @@ impl Playing {
     pub fn ask(&mut self, alloc: Global) -> Asked
         requires { self.old.segment ≡ segment_of self.old.task.spot }
         ensures asked { result ≡ play_ask self.old.task (play_of self.old) self.old.posts.items }
-        ensures sent { playing_of self.new ≡ sent_play self.old.task self.old.place (play_of self.old) self.old.posts.items self.old.end }
-        ensures kept { (self.new.task.spot ≡ self.old.task.spot) × (self.new.segment ≡ self.old.segment) × (self.new.place ≡ self.old.place) × (self.new.posts.items ≡ self.old.posts.items) }
+        ensures sent { playing_of self.new ≡ sent_play self.old.task self.old.index (play_of self.old) self.old.posts.items self.old.end }
+        ensures kept { (self.new.task.spot ≡ self.old.task.spot) × (self.new.segment ≡ self.old.segment) × (self.new.index ≡ self.old.index) × (self.new.posts.items ≡ self.old.posts.items) }
     {
         if !self.posts.is_empty() {
             return Asked {
@@ -114,7 +114,7 @@ impl Playing {
 
     /// The post that was drawn; its causes go out.
     pub fn post(&self, sent: &mut Sent, alloc: Global) -> Asked
-        ensures asked { result ≡ post_ask self.now.task self.now.place sent.old }
+        ensures asked { result ≡ post_ask self.now.task self.now.index sent.old }
         ensures sent { sent.new ≡ record sent.old { causes = [] } }
     {
         let causes = replace(&mut sent.causes, List::new(alloc));
@@ -123,7 +123,7 @@ impl Playing {
             ask: Ask::Post(Msg {
                 id: MsgId::Task {
                     task: self.task.id,
-                    place: self.place,
+                    place: self.index,
                 },
                 port: sent.port,
                 value: sent.value,

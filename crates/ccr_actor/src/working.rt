@@ -1,6 +1,6 @@
 //! The work of an actor: its script, its rounds, and the plays of its tasks.
 
-ghost use Rattle.std.specs.Prelude.{◌≡◌, [], ℕ, ◌<◌, ◌≤◌, ◌+◌, ◌^◌, false, IfNone, IfSome, IsTrue, OnOk, OnErr, length};
+ghost use Rattle.std.specs.Prelude.{◌≡◌, [], ℕ, ◌<◌, ◌+◌, ◌^◌, false, IsTrue, OnOk, OnErr, length};
 ghost use Rattle.ccr_base.specs.Bounds.{most_empty_rounds};
 ghost use Rattle.ccr_actor.specs.Actors.{after_end, after_line, after_over, after_play, after_posting, after_round, after_take, after_work, round, begin_play, most_taken, next_round, rest_or_round, shedding, take_from};
 ghost use Rattle.ccr_actor.specs.Courses.{state_of, IsBeside, IsCounted, IsPlayCounted, IsStep};
@@ -48,8 +48,8 @@ impl<'w> Course<'w> {
 
     /// The line was posted, or the poster has left.
     pub fn line_made(&mut self, lines: Lines<'w>) -> Result<(), OutOfMemory>
-        requires counted { lines.place + length lines.left < 2 ^ 32 }
-        ensures ok { OnOk result (state_of self.new ≡ after_line self.old.wiring.now (state_of self.old) lines.entry.place lines.entry.left) }
+        requires counted { lines.index + length lines.left < 2 ^ 32 }
+        ensures ok { OnOk result (state_of self.new ≡ after_line self.old.wiring.now (state_of self.old) lines.entry.index lines.entry.left) }
         ensures counted { OnOk result (IsCounted self.new.work self.new.taken self.new.empty) }
         ensures err { OnErr result ((state_of self.new).hand ≡ (state_of self.old).hand) }
         ensures needs { OnErr result (IsTrue (line_needs self.old.wiring.now lines.entry.left)) }
@@ -130,7 +130,7 @@ impl<'w> Course<'w> {
         self.work = Work::Playing(Playing {
             task,
             segment,
-            place: 0,
+            index: 0,
             posts: VecDeque::from_vec(posts.into_vec()),
             end,
             causes,
@@ -144,7 +144,7 @@ impl<'w> Course<'w> {
         ensures ok { OnOk result (state_of self.new ≡ after_over self.old.wiring.now (state_of self.old) task.now) }
         ensures counted { OnOk result (IsCounted self.new.work self.new.taken self.new.empty) }
         ensures err { OnErr result ((state_of self.new).hand ≡ (state_of self.old).hand) }
-        ensures needs { OnErr result (IsTrue (adds_arbiter self.old.wiring.now task.now.arbiter self.old.arbiters.items)) }
+        ensures needs { OnErr result (IsTrue (adds_arbiter self.old.wiring.now task.now.arbiter self.old.domains.items)) }
         ensures attempt { self.new.attempt ≡ self.old.attempt }
         ensures beside { IsBeside self.old self.new }
     {
@@ -180,7 +180,7 @@ impl<'w> Course<'w> {
     pub fn played(&mut self, mut playing: Playing, reply: &Reply) -> Result<(), OutOfMemory>
         requires empty { self.old.empty < most_empty_rounds }
         requires counted { IsPlayCounted playing (length playing.posts.items) }
-        ensures ok { OnOk result (state_of self.new ≡ after_play self.old.wiring.now (state_of self.old) playing.task playing.place (play_of playing) playing.posts.items reply.now) }
+        ensures ok { OnOk result (state_of self.new ≡ after_play self.old.wiring.now (state_of self.old) playing.task playing.index (play_of playing) playing.posts.items reply.now) }
         ensures counted { OnOk result (IsCounted self.new.work self.new.taken self.new.empty) }
         ensures err { OnErr result ((state_of self.new).hand ≡ (state_of self.old).hand) }
         ensures needs { OnErr result (IsTrue (play_needs self.old.wiring.now (state_of self.old) playing.task playing.end playing.posts.items)) }
@@ -201,7 +201,7 @@ impl<'w> Course<'w> {
     pub fn post_made(&mut self, playing: Playing, sent: &Sent) -> Result<(), OutOfMemory>
         requires empty { self.old.empty < most_empty_rounds }
         requires counted { IsPlayCounted playing (length playing.posts.items + 1) }
-        ensures ok { OnOk result (state_of self.new ≡ after_posting self.old.wiring.now (state_of self.old) playing.task playing.place (play_of playing) sent.now) }
+        ensures ok { OnOk result (state_of self.new ≡ after_posting self.old.wiring.now (state_of self.old) playing.task playing.index (play_of playing) sent.now) }
         ensures counted { OnOk result (IsCounted self.new.work self.new.taken self.new.empty) }
         ensures err { OnErr result ((state_of self.new).hand ≡ (state_of self.old).hand) }
         ensures needs { OnErr result (IsTrue (has_any (spots_at self.old.wiring.now sent.now.port))) }
@@ -210,8 +210,8 @@ impl<'w> Course<'w> {
     {
         self.spots = Driven::of(self.wiring.spots_at(sent.port));
         self.fired = 0;
-        let place = playing.place + 1;
-        self.work = Work::Playing(Playing { place, ..playing });
+        let index = playing.index + 1;
+        self.work = Work::Playing(Playing { index, ..playing });
         Ok(())
     }
 

@@ -1,7 +1,6 @@
 //! The object of a receiver or of a choice.
 
-ghost use Rattle.std.specs.Prelude.{◌≡◌, ◌≤◌, List, IsTrue, IfOk, OnErr};
-ghost use Rattle.std.specs.Option.{option_map};
+ghost use Rattle.std.specs.Prelude.{◌≡◌, List, IsTrue, IfOk, OnErr};
 ghost use Rattle.ccr_places.specs.Arbiters.{receiver, choice, has_spot, retired_by, may_commit as can_commit, may_over as can_over, after, after_over, IsGiven};
 ghost use Rattle.ccr_places.specs.Commits.{commit_note};
 ghost use Rattle.ccr_base.specs.declared.names.MsgId.{MsgId};

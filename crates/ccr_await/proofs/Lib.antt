@@ -1,1 +1,1 @@
-pub mod Resumed
+pub mod NamesAfterCommits

@@ -26,7 +26,15 @@ start branch site = record { branch = branch; site = site; suspended = []; fired
 -- the task goes on for the suspended one: its root, arbiter and queue, its values followed by the task's, its causes
 -- followed by those of the task that it lacks
 abbrev pub resumed : Task → Task → Task
-resumed suspended task = record { id = task.id; root = suspended.root; spot = task.spot; arbiter = suspended.arbiter; queue = suspended.queue; values = suspended.values ++ task.values; causes = union suspended.causes task.causes }
+resumed suspended task = record {
+  id = task.id;
+  root = suspended.root;
+  spot = task.spot;
+  arbiter = suspended.arbiter;
+  queue = suspended.queue;
+  values = suspended.values ++ task.values;
+  causes = union suspended.causes task.causes;
+}
 
 -- the task is suspended last
 abbrev pub after_suspend : SiteTasks → Task → SiteTasks

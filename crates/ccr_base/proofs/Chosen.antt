@@ -12,7 +12,7 @@ slice_get-here : (front : List Msg) (message : Msg) (back : List Msg) → slice_
 slice_get-here [] message back = refl
 slice_get-here (first ∷ front) message back = slice_get-here front message back
 
--- the places found behind a front part are those of the messages that fit there
+-- the places found behind a prefix are those of the messages that fit there
 messages_at-places : (pred : Pred) (messages front : List Msg) (most : ℕ) → messages_at (front ++ messages) (take most (places_from (length front) pred messages)) ≡ take most (fitting pred messages)
 messages_at-places pred [] front zero = refl
 messages_at-places pred [] front (suc most) = refl

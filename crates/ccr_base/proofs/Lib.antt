@@ -5,3 +5,4 @@ pub mod Lists
 pub mod Texts
 pub mod Places
 pub mod Chosen
+pub mod Loops

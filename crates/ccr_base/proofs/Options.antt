@@ -1,5 +1,5 @@
 -- What is known of an option by what is made of it, and of a list by what stands at a place.
-use Rattle.std.proofs.Common.{◌≡◌, ℕ, zero, suc, ◌<◌, ◌≤◌, Bool, true, false, cond, List, [], ◌∷◌, length, Option, Some, None, refl, arith}
+use Rattle.std.proofs.Common.{◌≡◌, ℕ, zero, suc, ◌<◌, ◌≤◌, Bool, true, false, cond, List, [], ◌∷◌, ◌++◌, length, Option, Some, None, refl, arith}
 use Rattle.std.specs.Prelude.{option_map, option_and_then, IfSome}
 use Rattle.std.specs.List.{slice_get}
 use Rattle.std.specs.Option.{option_map_or, option_or}
@@ -24,6 +24,11 @@ some_map f (Some x) y is = (x, refl)
 pub none_or : {X : Type 0} (a b : Option X) → option_or a b ≡ None → (a ≡ None) × (b ≡ None)
 none_or None b is = (refl, is)
 none_or (Some x) b is = absurd (cc)
+
+-- one change behind the other
+pub map_map : {X Y Z : Type 0} (f : Y → Z) (g : X → Y) (o : Option X) → option_map f (option_map g o) ≡ option_map (λ x. f (g x)) o
+map_map f g None = refl
+map_map f g (Some x) = refl
 
 pub none_map : {X Y : Type 0} (f : X → Y) (o : Option X) → option_map f o ≡ None → o ≡ None
 none_map f None is = refl
@@ -55,3 +60,11 @@ pub get-some : {X : Type 0} (xs : List X) (n : ℕ) → n < length xs → (x : X
 get-some [] n low = absurd (omega (arith, low))
 get-some (x ∷ xs) zero low = (x, refl)
 get-some (x ∷ xs) (suc n) low = get-some xs n (omega (arith, low))
+
+-- what was put behind all others is the last
+pub get-last : {X : Type 0} (xs now : List X) (n : ℕ) (x : X) → n ≡ length xs → now ≡ xs ++ x ∷ [] → slice_get now n ≡ Some x
+get-last {X = X} xs now n x long is = rw (is, long) (at xs)
+  where
+    at : (ys : List X) → slice_get (ys ++ x ∷ []) (length ys) ≡ Some x
+    at [] = refl
+    at (y ∷ ys) = at ys

@@ -47,17 +47,59 @@ most_ports = 256
 abbrev pub most_sets : ℕ
 most_sets = 64
 
+-- the ports of a set, at most
+abbrev pub most_set_ports : ℕ
+most_set_ports = 8
+
 abbrev pub most_causes : ℕ
 most_causes = 32
 
 abbrev pub most_handlers : ℕ
 most_handlers = 256
 
+-- the actions of a handler, at most
+abbrev pub most_actions : ℕ
+most_actions = 16
+
+-- the sites of a branch, at most: one for each action of its handler
+abbrev pub most_sites : ℕ
+most_sites = 16
+
 abbrev pub most_arbiters : ℕ
 most_arbiters = 256
 
 abbrev pub most_branches : ℕ
 most_branches = 256
+
+-- the domains that combine Interleaves, and the members of one, at most
+abbrev pub most_domains : ℕ
+most_domains = 128
+
+abbrev pub most_members : ℕ
+most_members = 8
+
+-- the slots of a pattern, at most
+abbrev pub most_slots : ℕ
+most_slots = 8
+
+-- the messages that a slot or a gather takes, at most
+abbrev pub most_count : ℕ
+most_count = 1000
+
+-- the number of a policy that discards or throttles, at most
+abbrev pub most_policy : ℕ
+most_policy = 1000
+
+-- in an expression, at most: the number of a message that the task took, and the place of a number in its value
+abbrev pub most_arg : ℕ
+most_arg = 65535
+
+abbrev pub last_index : ℕ
+last_index = 7
+
+-- the numbers of a value, at most
+abbrev pub most_value_numbers : ℕ
+most_value_numbers = 8
 
 -- the spots that name one port, at most
 abbrev pub most_spots : ℕ
@@ -75,9 +117,15 @@ most_task_posts = 10000
 abbrev pub most_size : ℕ
 most_size = 10000
 
--- of a service, at most: operations, and what its clients ask
+-- of a service, at most: the bytes of a name, operations, clients, and what the clients ask
+abbrev pub most_service_name_bytes : ℕ
+most_service_name_bytes = 12
+
 abbrev pub most_ops : ℕ
 most_ops = 32
+
+abbrev pub most_clients : ℕ
+most_clients = 16
 
 abbrev pub most_asks : ℕ
 most_asks = 10000

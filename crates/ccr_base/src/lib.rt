@@ -18,7 +18,8 @@ pub use handlers::{Action, Expr, Handler};
 pub use list::{List, Name, OutOfMemory};
 pub use messages::{Msg, Seen, Sent};
 pub use names::{
-    ActorNo, ArbiterNo, BranchNo, CauseNo, HandlerNo, MsgId, Place, PortNo, QueueNo, Spot, TaskId,
+    ActorNo, ArbiterNo, BranchNo, CauseNo, HandlerNo, MAX_WORKERS, MsgId, Place, PortNo, QueueNo,
+    Spot, TaskId,
 };
 pub use patterns::{Pattern, Pred, Slot};
 pub use policies::{Group, Policy};

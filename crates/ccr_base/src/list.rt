@@ -79,13 +79,13 @@ impl<T> List<T> {
         self.items.is_empty()
     }
 
-    /// Takes out the item at the place and closes up.
-    pub fn remove(&mut self, place: usize) -> T
-        requires { place < length self.old }
-        ensures item { slice_get self.old place ≡ Some result }
-        ensures rest { self.new ≡ remove self.old place }
+    /// Takes out the item at the index and closes up.
+    pub fn remove(&mut self, index: usize) -> T
+        requires { index < length self.old }
+        ensures item { slice_get self.old index ≡ Some result }
+        ensures rest { self.new ≡ remove self.old index }
     {
-        self.items.remove(place)
+        self.items.remove(index)
     }
 
     pub fn from_vec(items: Vec<T>) -> Self

@@ -15,6 +15,9 @@ pub type BranchNo = u32;
 /// The posters come first, then the workers, then the closer.
 pub type ActorNo = u32;
 
+/// The most workers that a run may have.
+pub const MAX_WORKERS: u32 = 16;
+
 /// The task that an attempt (from 0) of an actor fired.
 #[derive(Clone, Copy, PartialEq, Eq, PartialOrd, Ord, Hash)]
 pub struct TaskId {
@@ -40,6 +43,7 @@ pub enum Spot {
 #[derive(Clone, Copy, PartialEq, Eq)]
 pub enum Place {
     Port(PortNo),
+    /// By the number of its domain: combined Interleaves have one lock.
     Arbiter(ArbiterNo),
     Site(BranchNo, u32),
     Queue(QueueNo),

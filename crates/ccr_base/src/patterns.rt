@@ -1,9 +1,10 @@
 //! What a branch takes: slots with predicates, or a gather.
 
-ghost use Rattle.std.specs.Prelude.{◌≡◌};
+ghost use Rattle.std.specs.Prelude.{◌≡◌, IfOk};
 ghost use Rattle.ccr_base.specs.Choice.{holds};
 
-use crate::{List, PortNo, Value};
+use crate::{List, OutOfMemory, PortNo, Value};
+use std::alloc::Global;
 
 /// What a slot asks of the first number of a message's value.
 #[derive(Clone, Copy, PartialEq, Eq)]
@@ -45,4 +46,24 @@ pub enum Pattern {
         first: PortNo,
         second: PortNo,
     },
+}
+
+impl Pattern {
+    /// An equal pattern.
+    pub fn copy(&self, alloc: Global) -> Result<Pattern, OutOfMemory>
+        ensures { IfOk result (λ copied. copied ≡ self.now) }
+    {
+        match self {
+            Pattern::Slots(slots) => Ok(Pattern::Slots(slots.copy(alloc)?)),
+            Pattern::Gather {
+                total,
+                first,
+                second,
+            } => Ok(Pattern::Gather {
+                total: *total,
+                first: *first,
+                second: *second,
+            }),
+        }
+    }
 }

@@ -1,7 +1,7 @@
 //! A case: what the program is given, and what it answers.
 
 use ccr_base::{List, Name, OpenGate, OutOfMemory};
-use ccr_cli::{run_ccr, run_surely};
+use ccr_cli::{Failure, Unfinished, run_ccr, run_surely};
 use ccr_gen::generate;
 use ccr_io::{MemorySink, MemorySource, SureSink, SureSource};
 use ccr_wiretext::write_wiring;
@@ -14,12 +14,6 @@ const LEGAL: &str = "legal complete yes quiet yes;done 0;";
 
 /// The number of no call.
 const NEVER: u64 = u64::MAX;
-
-/// The status where a call of the source failed.
-const READ_FAULT: u8 = 3;
-
-/// The status where a call of the sink failed.
-const WRITE_FAULT: u8 = 4;
 
 /// What the program is given, and its status.
 #[derive(Drop)]
@@ -55,7 +49,7 @@ struct Streams {
 
 /// How the program ended, and what it wrote.
 #[derive(Drop)]
-struct Outcome {
+struct CaseEnd {
     status: u8,
     written: List<u8>,
 }
@@ -156,8 +150,8 @@ fn sink_of(alloc: Global, room: usize, failing: u64) -> Result<MemorySink, OutOf
 }
 
 /// The outcome of this status and of what was written.
-fn ended_with(alloc: Global, status: u8, written: &[u8]) -> Result<Outcome, OutOfMemory> {
-    Ok(Outcome {
+fn ended_with(alloc: Global, status: u8, written: &[u8]) -> Result<CaseEnd, OutOfMemory> {
+    Ok(CaseEnd {
         status,
         written: listed(alloc, written)?,
     })
@@ -189,7 +183,7 @@ fn run_program<R: AllocGlobal + Threads + Wait + Sync>(
     words: &str,
     input: &[u8],
     streams: Streams,
-) -> Result<Outcome, OutOfMemory> {
+) -> Result<CaseEnd, OutOfMemory> {
     let alloc = rt.alloc();
     let words = words_of(alloc, words)?;
     let mut source = source_of(alloc, input, streams.read)?;
@@ -202,7 +196,7 @@ fn run_program<R: AllocGlobal + Threads + Wait + Sync>(
 fn run_sure<R: AllocGlobal + Threads + Wait + Sync>(
     rt: &R,
     case: &Case<'_>,
-) -> Result<Outcome, OutOfMemory> {
+) -> Result<CaseEnd, OutOfMemory> {
     let alloc = rt.alloc();
     let words = words_of(alloc, case.words)?;
     let mut source = SureSource::new(listed(alloc, case.input.as_slice())?);
@@ -290,7 +284,7 @@ fn run_failing<R: AllocGlobal + Threads + Wait + Sync>(
     case: &Case<'_>,
     read: u64,
     write: u64,
-) -> Result<Outcome, OutOfMemory> {
+) -> Result<CaseEnd, OutOfMemory> {
     let streams = case.streams(read, write);
     run_program(rt, case.words, case.input.as_slice(), streams)
 }
@@ -302,7 +296,7 @@ fn read_ends_it<R: AllocGlobal + Threads + Wait + Sync>(
     read: u64,
 ) -> Result<bool, OutOfMemory> {
     let given = run_failing(rt, case, read, NEVER)?;
-    Ok(given.status == READ_FAULT && given.written.as_slice().is_empty())
+    Ok(given.status == Failure::ReadFault as u8 && given.written.as_slice().is_empty())
 }
 
 /// Whether each of so many reads, made to fail, ends the case with nothing written, and one behind them isn't made.
@@ -331,7 +325,7 @@ fn write_ends_it<R: AllocGlobal + Threads + Wait + Sync>(
     let given = run_failing(rt, case, NEVER, write)?;
     let written = given.written.as_slice();
     Ok(
-        given.status == WRITE_FAULT
+        given.status == Unfinished::WriteFault as u8
             && whole.starts_with(written)
             && (write != 0 || written.is_empty()),
     )
@@ -374,7 +368,7 @@ fn faults_end_it<R: AllocGlobal + Threads + Wait + Sync>(
 fn is_answered<R: AllocGlobal + Threads + Wait + Sync>(
     rt: &R,
     case: &Case<'_>,
-    given: &Outcome,
+    given: &CaseEnd,
     due: Expected<'_>,
 ) -> Result<bool, OutOfMemory> {
     let written = given.written.as_slice();

@@ -2,7 +2,8 @@
 
 ghost use Rattle.std.specs.Prelude.{◌≡◌, ◌<◌, length, Some, IfOk, IfSome, IfNone, OnOk, OnErr};
 ghost use Rattle.std.specs.List.{slice_get};
-ghost use Rattle.ccr_cause.specs.Causes.{has_cause, with_cause, without_cause, union};
+ghost use Rattle.ccr_base.specs.Lists.{has_number};
+ghost use Rattle.ccr_cause.specs.Causes.{with_cause, without_cause, union};
 
 use ccr_base::{CauseNo, List, OutOfMemory};
 use std::alloc::Global;
@@ -41,26 +42,26 @@ pub fn add(causes: &mut List<CauseNo>, cause: CauseNo) -> Result<(), OutOfMemory
 pub fn remove(causes: &mut List<CauseNo>, cause: CauseNo)
     ensures { causes.new ≡ without_cause causes.old cause }
 {
-    while let Some(place) = place_of(causes.as_slice(), cause) {
-        causes.remove(place);
+    while let Some(index) = index_of(causes.as_slice(), cause) {
+        causes.remove(index);
     }
 }
 
 fn has_cause(causes: &[CauseNo], cause: CauseNo) -> bool
-    ensures { result ≡ has_cause causes.now cause }
+    ensures { result ≡ has_number causes.now cause }
 {
     causes.iter().any(|other| *other == cause)
 }
 
 /// Where the cause stands first.
-fn place_of(causes: &[CauseNo], cause: CauseNo) -> Option<usize>
-    ensures within { IfSome result (λ place. place < length causes.now) }
-    ensures found { IfSome result (λ place. slice_get causes.now place ≡ Some cause) }
+fn index_of(causes: &[CauseNo], cause: CauseNo) -> Option<usize>
+    ensures within { IfSome result (λ index. index < length causes.now) }
+    ensures found { IfSome result (λ index. slice_get causes.now index ≡ Some cause) }
     ensures absent { IfNone result (without_cause causes.now cause ≡ causes.now) }
 {
-    for (place, other) in causes.iter().enumerate() {
+    for (index, other) in causes.iter().enumerate() {
         if *other == cause {
-            return Some(place);
+            return Some(index);
         }
     }
     None

@@ -1,3 +1,3 @@
-pub mod Judged
+pub mod JudgesStayJudges
 pub mod Places
-pub mod Accepted
+pub mod EachEventWasAccepted

@@ -1,6 +1,6 @@
 //! The judge that keeps what it accepted.
 
-ghost use Rattle.std.specs.Prelude.{◌≡◌, ◌++◌, ◌∷◌, [], IfNone, IfOk, IfSome, OnErr, OnOk, length, option_map, true};
+ghost use Rattle.std.specs.Prelude.{◌≡◌, ◌++◌, ◌∷◌, [], IfNone, IfOk, IfSome, OnErr, OnOk, length, option_map};
 ghost use Rattle.ccr_model.specs.Legal.{IsLegal, is_complete};
 ghost use Rattle.ccr_model.specs.Rules.{number_of, refusal};
 ghost use Rattle.ccr_checker.specs.Quiet.{MeansQuiet};
@@ -20,10 +20,9 @@ pub struct Judge<'w> {
     wiring: &'w Wiring,
     /// The events that were accepted.
     history: History,
-    /// The judge of them that keeps none, boxed, so that who drops it drops one value and not each of its tables.
-    checker: Box<Checker<'w>>,
-    /// Whether it has come as far: where there was no memory it may not have.
-    current: bool,
+    /// The checker that accepted them all, or none after a call that found no memory. It is boxed, so that who drops it drops one value and
+    /// not each of its tables.
+    checker: Option<Box<Checker<'w>>>,
 }
 
 impl<'w> Model for Judge<'w> {
@@ -34,28 +33,7 @@ impl<'w> Model for Judge<'w> {
 
     ghost view = { λ j. record { wiring = j.wiring.now; history = j.history } };
 
-    ghost invariant = { λ j. IsJudge (record { wiring = j.wiring.now; history = j.history }) j.checker.value j.current };
-}
-
-/// Makes the inner judge anew where it hasn't come as far as the history.
-fn make_current<'w>(
-    alloc: Global,
-    wiring: &'w Wiring,
-    history: &History,
-    checker: &mut Box<Checker<'w>>,
-    current: bool,
-) -> Result<(), OutOfMemory>
-    requires legal { IsLegal wiring.now history.now }
-    requires so_far { current ≡ true → checker.old.value ≡ record { wiring = wiring.now; history = history.now } }
-    ensures so_far { OnOk result (checker.new.value ≡ record { wiring = wiring.now; history = history.now }) }
-    ensures err { OnErr result (checker.new.value ≡ checker.old.value) }
-{
-    if current {
-        return Ok(());
-    }
-    let made = Checker::behind(alloc, wiring, history.events())?;
-    *checker = Box::new(alloc, made)?;
-    Ok(())
+    ghost invariant = { λ j. IsJudge (record { wiring = j.wiring.now; history = j.history }) j.checker };
 }
 
 impl<'w> Judge<'w> {
@@ -70,9 +48,23 @@ impl<'w> Judge<'w> {
             alloc,
             wiring,
             history: History::new(alloc),
-            checker,
-            current: true,
+            checker: Some(checker),
         })
+    }
+
+    /// Takes the checker out, or makes it anew where there is none.
+    fn take_checker(&mut self) -> Result<Box<Checker<'w>>, OutOfMemory>
+        ensures checker { IfOk result (λ checker. checker.value ≡ self.old) }
+        ensures kept { self.new ≡ self.old }
+    {
+        match self.checker.take() {
+            Some(checker) => Ok(checker),
+            None => {
+                let made = Checker::behind(self.alloc, self.wiring, self.history.events())?;
+                let checker = Box::new(self.alloc, made)?;
+                Ok(checker)
+            }
+        }
     }
 
     /// Accepts the event, or answers the number of the first rule of docs/MODEL.md that refuses it after those that were accepted.
@@ -82,24 +74,17 @@ impl<'w> Judge<'w> {
         ensures refused { IfOk result (λ rule. IfSome rule (λ number. self.new ≡ self.old)) }
         ensures err { OnErr result (self.new ≡ self.old) }
     {
-        make_current(
-            self.alloc,
-            self.wiring,
-            &self.history,
-            &mut self.checker,
-            self.current,
-        )?;
-        self.current = true;
-        if let Some(rule) = self.checker.refusal(event)? {
+        let mut checker = self.take_checker()?;
+        if let Some(rule) = checker.refusal(event)? {
+            self.checker = Some(checker);
             return Ok(Some(rule.number()));
         }
         // A legal history is short, so no bound is tested.
         valid_histories_are_short();
         let kept = event.copy(self.alloc)?;
-        self.current = false;
-        self.checker.accept(event)?;
+        checker.accept(event)?;
         self.history.append(kept)?;
-        self.current = true;
+        self.checker = Some(checker);
         Ok(None)
     }
 
@@ -116,8 +101,8 @@ impl<'w> Judge<'w> {
         ensures { result ≡ is_complete self.now.wiring self.now.history }
     {
         let wiring: &Wiring = self.wiring;
-        if self.current
-            && let Ok(complete) = self.checker.complete()
+        if let Some(checker) = &self.checker
+            && let Ok(complete) = checker.complete()
         {
             return complete;
         }

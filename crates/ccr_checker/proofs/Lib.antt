@@ -1,7 +1,6 @@
-pub mod SameLists
 pub mod Numbered
 pub mod Stillness
 pub mod Refusals
 pub mod StillTold
-pub mod Accepting
-pub mod Along
+pub mod JudgesStayJudges
+pub mod LegalEventsOneByOne

@@ -6,6 +6,7 @@ use Rattle.std.specs.Option.{option_map_or}
 use Rattle.std.proofs.lemmas.List.{length-map}
 use Rattle.ccr_base.specs.declared.names.TaskId.{TaskId}
 use Rattle.ccr_base.specs.declared.names.Spot.{Spot}
+use Rattle.ccr_base.proofs.Lists.{any_same}
 use Rattle.ccr_wiring.specs.declared.parts.Parts.{Parts}
 use Rattle.ccr_wiring.specs.declared.parts.PosterPart.{PosterPart}
 use Rattle.ccr_wiring.specs.declared.parts.ArbiterPart.{ArbiterPart}
@@ -28,11 +29,6 @@ use Rattle.ccr_ledger.proofs.Telling.{lives_told, room_told, can_choose_told, ma
 use Rattle.ccr_ledger.proofs.RulesTold.{is_ready_told}
 use Rattle.ccr_checker.specs.Left.{has_line_left, can_admit, has_admission, has_queued, is_still}
 use Rattle.ccr_checker.specs.LeftInTables.{has_line_left_in, can_fire_in, has_admission_in, has_ready, has_queued_in, is_still_in, are_whole_in, is_complete_in}
-
--- over plain lists: two tests that agree, and a test of the names
-any-same : {X : Type 0} (p q : X → Bool) (xs : List X) → ((x : X) → p x ≡ q x) → list_any p xs ≡ list_any q xs
-any-same p q [] same = refl
-any-same p q (x ∷ xs) same = rw (same x, any-same p q xs same) refl
 
 any-named : (p : TaskId → Bool) (cards : List (TaskId × Card)) → list_any (λ (entry : TaskId × Card). p entry.0) cards ≡ list_any p (map (λ (entry : TaskId × Card). entry.0) cards)
 any-named p [] = refl
@@ -58,7 +54,7 @@ module _ (w : Parts) (valid : IsValid w) (h : List Event) (legal : IsLegal w h) 
   admission n (x ∷ xs) low = rw (keeps.rows.waiting n (omega (arith, low)), admits_first (waiting w h n), admission (n + 1) xs (omega (arith, low))) refl
 
   ready : has_ready b ≡ list_any (may_put w h) (fired h)
-  ready = any-named (is_ready b) b.tasks ∙ (ap (λ ts. list_any (is_ready b) ts) keeps.tasks.names ∙ any-same (is_ready b) (may_put w h) (fired h) (is_ready_told w valid h legal b keeps))
+  ready = any-named (is_ready b) b.tasks ∙ (ap (λ ts. list_any (is_ready b) ts) keeps.tasks.names ∙ any_same (is_ready b) (may_put w h) (fired h) (is_ready_told w valid h legal b keeps))
 
   queued_left : (n : ℕ) (qs : List QueuePart) → n + length qs ≤ length w.queues → has_queued_in b n qs ≡ has_queued w h n qs
   queued_left n [] low = refl
@@ -67,7 +63,7 @@ module _ (w : Parts) (valid : IsValid w) (h : List Event) (legal : IsLegal w h) 
   pub is_still_told : is_still_in w b ≡ is_still w h
   unfolding is_still_in is_still
   is_still_told =
-      rw (line_left 0 w.posters (omega arith), any-same (can_fire_in w b) (can_fire w h) (spots w) fires, admission 0 w.arbiters (omega arith), ready, none-run b.running, keeps.rows.running, queued_left 0 w.queues (omega arith)) refl
+      rw (line_left 0 w.posters (omega arith), any_same (can_fire_in w b) (can_fire w h) (spots w) fires, admission 0 w.arbiters (omega arith), ready, none-run b.running, keeps.rows.running, queued_left 0 w.queues (omega arith)) refl
 
   whole : (n : ℕ) (ps : List PosterPart) → n + length ps ≤ length w.posters → are_whole_in b n ps ≡ are_whole_from h n ps
   whole n [] low = refl

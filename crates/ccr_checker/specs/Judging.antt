@@ -1,7 +1,8 @@
 -- Which event the tables refuse: the rules of ccr_model, asked of the tables.
-use Rattle.std.specs.Prelude.{ℕ, ◌+◌, ◌-◌, Bool, false, not, ◌==◌, ◌&&◌, nat_le, length, Option, None, option_and_then, if◌then◌else◌}
+use Rattle.std.specs.Prelude.{ℕ, Bool, false, not, ◌==◌, ◌&&◌, nat_le, Option, None, option_and_then, if◌then◌else◌}
 use Rattle.std.specs.List.{slice_get}
 use Rattle.std.specs.Option.{option_map_or}
+use Rattle.ccr_base.specs.Bounds.{most_actors}
 use Rattle.ccr_base.specs.declared.names.TaskId.{TaskId}
 use Rattle.ccr_base.specs.declared.names.MsgId.{MsgId}
 use Rattle.ccr_base.specs.declared.names.MsgId.TheVariants.{Script, Task}
@@ -9,18 +10,21 @@ use Rattle.ccr_base.specs.declared.messages.Msg.{Msg}
 use Rattle.ccr_base.specs.Names.{same_task, same_lists, same_options}
 use Rattle.ccr_wiring.specs.declared.parts.Parts.{Parts}
 use Rattle.ccr_wiring.specs.declared.parts.PosterPart.{PosterPart}
+use Rattle.ccr_wiring.specs.Actors.{is_behind_posters}
 use Rattle.ccr_model.specs.declared.history.Event.{Event}
 use Rattle.ccr_model.specs.declared.history.Event.TheVariants.{Post, Fire, Admit, Put, Start, End}
 use Rattle.ccr_model.specs.declared.history.EndHow.{EndHow}
 use Rattle.ccr_model.specs.declared.rule.Rule.{Rule}
 use Rattle.ccr_model.specs.declared.rule.Rule.TheVariants as rules
-use Rattle.ccr_model.specs.Rules.{is_post, ends_so, is_shed, refused}
+use Rattle.ccr_model.specs.Rules.{is_post, ends_so, is_shed, is_used_up, refused}
 use Rattle.ccr_ledger.specs.Books.{Books, number}
 use Rattle.ccr_ledger.specs.Asked.{has_fired, lives, are_choice, room, cuts, waits_first, may_admit_task, is_ready, drops, queued_first, is_busy, runs, play_in, made_in, has_more, unfinished, budget_lasts}
 
 -- rule 1: it is the poster's next line
 abbrev pub is_next_line : Parts → Books → ℕ → ℕ → Msg → Bool
-is_next_line wiring books actor index message = (index == number books.script_posts actor) && option_map_or (is_post message) (option_and_then (λ (p : PosterPart). slice_get p.posts index) (slice_get wiring.posters actor)) false
+is_next_line wiring books actor index message =
+    (index == number books.script_posts actor)
+    && option_map_or (is_post message) (option_and_then (λ (p : PosterPart). slice_get p.posts index) (slice_get wiring.posters actor)) false
 
 -- rule 2: it is the next post of the running task's play
 abbrev pub is_next_post : Books → TaskId → ℕ → Msg → Bool
@@ -28,15 +32,15 @@ is_next_post books task index message = runs books task && (index == made_in boo
 
 -- rule 4: no task of this name fired, and its actor is at most 32
 abbrev pub is_unused : Books → TaskId → Bool
-is_unused books task = not (has_fired books task) && nat_le task.actor 32
+is_unused books task = not (has_fired books task) && nat_le task.actor most_actors
 
 -- rule 14: the actor is no poster, is at most 32, and runs no task that it started
 abbrev pub is_idle : Parts → Books → ℕ → Bool
-is_idle wiring books actor = nat_le (length wiring.posters) actor && nat_le actor 32 && not (is_busy books actor)
+is_idle wiring books actor = is_behind_posters wiring actor && nat_le actor most_actors && not (is_busy books actor)
 
 -- rule 16, shed: it has a post left to make, and the budget is used up by what tasks posted and one post for each other task that has some left
 abbrev pub sheds : Parts → Books → TaskId → Bool
-sheds wiring books task = has_more books task && nat_le wiring.budget (books.task_posts + (unfinished books - 1))
+sheds wiring books task = has_more books task && is_used_up wiring.budget books.task_posts (unfinished books)
 
 -- rule 16: shed where it may be; else no post of its play is left and it ends as its play does
 abbrev pub is_ending : Parts → Books → TaskId → EndHow → Bool

@@ -1,9 +1,8 @@
 //! The judge that keeps no event.
 
-ghost use Rattle.std.specs.Prelude.{◌≡◌, ◌++◌, ◌∷◌, [], IfNone, IfOk, IfSome, OnErr, OnOk};
+ghost use Rattle.std.specs.Prelude.{◌≡◌, ◌++◌, ◌∷◌, [], IfOk, OnErr, OnOk};
 ghost use Rattle.ccr_wiring.specs.Valid.{IsValid};
 ghost use Rattle.ccr_model.specs.Legal.{IsAllowed, IsLegal, is_complete};
-ghost use Rattle.ccr_model.specs.Counts.{is_shed as is_shed_end};
 ghost use Rattle.ccr_model.specs.Rules.{refusal};
 ghost use Rattle.ccr_ledger.specs.Kept.{Keeps};
 ghost use Rattle.ccr_checker.specs.Quiet.{MeansQuiet};
@@ -14,7 +13,8 @@ use crate::left::is_still;
 use crate::refusing::refusal;
 use ccr_base::OutOfMemory;
 use ccr_ledger::Ledger;
-use ccr_model::{EndHow, Event, GhostHistory, Rule};
+use ccr_model::firings::is_shed_end;
+use ccr_model::{Event, GhostHistory, Rule};
 use ccr_wiring::Wiring;
 use std::alloc::Global;
 use std::marker::Model;
@@ -42,16 +42,6 @@ impl<'w> Model for Checker<'w> {
     ghost view = { λ c. record { wiring = c.wiring.now; history = c.accepted } };
 
     ghost invariant = { λ c. IsChecker (record { wiring = c.wiring.now; history = c.accepted }) c.ledger c.whole c.shed };
-}
-
-/// Whether the event is the end of a task that was shed.
-fn is_shed_end(event: &Event) -> bool
-    ensures { result ≡ is_shed_end event.now }
-{
-    match event {
-        Event::End { how, .. } => *how == EndHow::Shed,
-        _ => false,
-    }
 }
 
 impl<'w> Checker<'w> {

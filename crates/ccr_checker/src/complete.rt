@@ -1,6 +1,6 @@
 //! Whether everything that was to be posted was posted.
 
-ghost use Rattle.std.specs.Prelude.{◌≡◌, ◌<◌, ◌^◌, length};
+ghost use Rattle.std.specs.Prelude.{◌≡◌};
 ghost use Rattle.ccr_model.specs.Legal.{are_whole_from, is_complete};
 ghost use Rattle.ccr_checker.specs.LeftInTables.{are_whole_in, is_complete_in};
 

@@ -1,7 +1,6 @@
 //! The judge of a history, event by event, which keeps none. It stands on the model and its tables, and on nothing of the engine.
 #![tactic(auto)]
 
-mod alike;
 mod checker;
 mod complete;
 mod laws;

@@ -3,33 +3,33 @@
 ghost use Rattle.std.specs.Prelude.{◌≡◌, IfOk};
 ghost use Rattle.ccr_checker.specs.Judging.{is_ending, is_idle, is_next_line, is_next_post, is_unused, refusal_in, refusal_of_post_in, sheds};
 
-use crate::alike::{are_same_tasks, is_post, is_same_drop};
 use ccr_base::{ActorNo, Msg, MsgId, OutOfMemory, Spot, TaskId};
 use ccr_handler::PlayEnd;
 use ccr_ledger::Ledger;
-use ccr_model::rules::ends_so;
+use ccr_model::alike::{are_same_tasks, is_post, is_same_drop};
+use ccr_model::rules::{ends_so, is_used_up};
 use ccr_model::{EndHow, Event, Rule};
 use ccr_wiring::{MAX_ACTOR, Wiring};
 
 /// Whether the message is the poster's next line.
-fn is_next_line(wiring: &Wiring, ledger: &Ledger, actor: ActorNo, place: u32, message: &Msg) -> bool
-    ensures { result ≡ is_next_line wiring.now ledger.now actor place message.now }
+fn is_next_line(wiring: &Wiring, ledger: &Ledger, actor: ActorNo, index: u32, message: &Msg) -> bool
+    ensures { result ≡ is_next_line wiring.now ledger.now actor index message.now }
 {
-    if place != ledger.script_posts(actor) {
+    if index != ledger.script_posts(actor) {
         return false;
     }
     let Some(poster) = wiring.parts().posters.as_slice().get(actor as usize) else {
         return false;
     };
-    match poster.posts.as_slice().get(place as usize) {
+    match poster.posts.as_slice().get(index as usize) {
         Some(sent) => is_post(message, sent.port(), &sent.value(), sent.causes()),
         None => false,
     }
 }
 
 /// Whether the message is the next post of the running task's play.
-fn is_next_post(ledger: &Ledger, task: TaskId, place: u32, message: &Msg) -> bool
-    ensures { result ≡ is_next_post ledger.now task place message.now }
+fn is_next_post(ledger: &Ledger, task: TaskId, index: u32, message: &Msg) -> bool
+    ensures { result ≡ is_next_post ledger.now task index message.now }
 {
     if !ledger.runs(task) {
         return false;
@@ -37,10 +37,10 @@ fn is_next_post(ledger: &Ledger, task: TaskId, place: u32, message: &Msg) -> boo
     let Some(card) = ledger.card(task) else {
         return false;
     };
-    if place != card.made {
+    if index != card.made {
         return false;
     }
-    match card.play.post(place as usize) {
+    match card.play.post(index as usize) {
         Some(post) => is_post(message, post.port, &post.value, post.causes),
         None => false,
     }
@@ -55,8 +55,7 @@ fn is_unused(ledger: &Ledger, task: TaskId) -> bool
 fn is_idle(wiring: &Wiring, ledger: &Ledger, actor: ActorNo) -> bool
     ensures { result ≡ is_idle wiring.now ledger.now actor }
 {
-    let posters = wiring.parts().posters.as_slice().len();
-    posters <= actor as usize && actor <= MAX_ACTOR && !ledger.is_busy(actor)
+    wiring.is_behind_posters(actor) && actor <= MAX_ACTOR && !ledger.is_busy(actor)
 }
 
 fn sheds(wiring: &Wiring, ledger: &Ledger, task: TaskId) -> bool
@@ -65,9 +64,8 @@ fn sheds(wiring: &Wiring, ledger: &Ledger, task: TaskId) -> bool
     if !ledger.has_more(task) {
         return false;
     }
-    let others = ledger.unfinished().saturating_sub(1);
-    let left = wiring.parts().budget.saturating_sub(ledger.task_posts());
-    left as usize <= others
+    let posts = ledger.task_posts() as usize;
+    is_used_up(wiring.parts().budget, posts, ledger.unfinished())
 }
 
 /// Whether the task may end so: shed, or as its play does.

@@ -1,22 +1,18 @@
 -- One more message gathered, and one more slot.
-use Rattle.std.proofs.Common.{◌≡◌, ℕ, ◌+◌, ◌<◌, List, [], ◌∷◌, ◌++◌, length, take, get_or, refl, ap, sym, ◌∙◌}
+use Rattle.std.proofs.Common.{◌≡◌, ℕ, ◌+◌, ◌<◌, List, [], ◌∷◌, ◌++◌, length, take, get_or, ap, sym, ◌∙◌}
 use Rattle.std.specs.List.{flat_map}
-use Rattle.std.proofs.lemmas.List.{map-append, append-nil, append_assoc, take_more}
+use Rattle.std.proofs.lemmas.List.{map-append, append_assoc, take_more}
 use Rattle.ccr_base.specs.declared.messages.Msg.{Msg}
+use Rattle.ccr_base.proofs.Lists.{flat_push}
 use Rattle.ccr_cause.specs.Causes.{union}
 use Rattle.ccr_cause.proofs.Joined.{union-append}
 use Rattle.ccr_claim.specs.declared.firing.Gathered.{Gathered}
 use Rattle.ccr_claim.specs.Firings.{IsOf}
 use Rattle.ccr_claim.specs.Plans.{names_of, values_of, causes_of}
 
--- of one more list
-pub flat-push : {A : Type 0} {B : Type 0} (f : A → List B) → (xs : List A) (x : A) → flat_map f (xs ++ x ∷ []) ≡ flat_map f xs ++ f x
-flat-push f [] x = append-nil (f x)
-flat-push f (y ∷ xs) x = ap (λ ys. f y ++ ys) (flat-push f xs x) ∙ (rw append_assoc refl)
-
 -- the causes of one more message
 pub causes-push : (messages : List Msg) (m : Msg) → causes_of (messages ++ m ∷ []) ≡ union (causes_of messages) m.causes
-causes-push messages m = ap (union []) (flat-push (λ (m : Msg). m.causes) messages m) ∙ union-append [] (flat_map (λ (m : Msg). m.causes) messages) m.causes
+causes-push messages m = ap (union []) (flat_push (λ (m : Msg). m.causes) messages m) ∙ union-append [] (flat_map (λ (m : Msg). m.causes) messages) m.causes
 
 pub names-push : (messages : List Msg) (m : Msg) → names_of (messages ++ m ∷ []) ≡ names_of messages ++ m.id ∷ []
 names-push messages m = map-append (λ (m : Msg). m.id) messages (m ∷ [])

@@ -1,5 +1,6 @@
 pub mod Gathering
 pub mod Replies
 pub mod Sorting
-pub mod Settled
-pub mod Apart
+pub mod AttemptHandsSettle
+pub mod HandsAreOwed
+pub mod CausesStandOnce

@@ -1,11 +1,12 @@
 -- Which replies an ask may have, and which asks settle what an earlier reply gave.
-use Rattle.std.specs.Prelude.{Bool, true, false, ◌==◌, ◌&&◌, nat_lt, nat_le, List, length, Result, Ok, Err}
+use Rattle.std.specs.Prelude.{◌≡◌, Bool, true, false, ◌==◌, ◌&&◌, nat_lt, nat_le, List, [], ◌∷◌, length, Result, Ok, Err}
 use Rattle.std.specs.List.{list_all}
 use Rattle.ccr_base.specs.declared.list.OutOfMemory.{OutOfMemory}
 use Rattle.ccr_base.specs.declared.messages.Msg.{Msg}
 use Rattle.ccr_base.specs.declared.patterns.Slot.{Slot}
 use Rattle.ccr_claim.specs.declared.asks.Ask.{Ask}
 use Rattle.ccr_claim.specs.declared.asks.Ask.TheVariants as asks
+use Rattle.ccr_claim.specs.declared.asks.Asked.{Asked}
 use Rattle.ccr_claim.specs.declared.asks.Due.{Due}
 use Rattle.ccr_claim.specs.declared.asks.Due.TheVariants as dues
 use Rattle.ccr_claim.specs.declared.asks.Reply.{Reply}
@@ -19,6 +20,11 @@ is_settling (asks.Over task root how) = true
 is_settling (asks.Unbook task) = true
 is_settling (asks.Put task) = true
 is_settling _ = false
+
+-- each of the asks settles
+abbrev pub AreSettling : List Asked → Type 0
+AreSettling [] = Unit {0}
+AreSettling (one ∷ more) = (is_settling one.ask ≡ true) × AreSettling more
 
 -- which replies the ask may have
 abbrev pub due_of : Ask → Due

@@ -174,7 +174,12 @@ with_dropped dropped ended = ended
 abbrev pub replied : AttemptState → Reply → AttemptState
 replied state replies.Booked = record state { phase = claiming (slots_in state.plan.pattern) []; due = dues.Nothing }
 replied state (replies.Got messages) = record state { phase = claimed state.plan messages state.phase; due = dues.Nothing }
-replied state (replies.Fired task cuts) = record state { hand = firing_hand state.task (had_in state.phase) task cuts; phase = booking; ended = Some (outcomes.Fired (waits task) None); due = dues.Nothing }
+replied state (replies.Fired task cuts) = record state {
+  hand = firing_hand state.task (had_in state.phase) task cuts;
+  phase = booking;
+  ended = Some (outcomes.Fired (waits task) None);
+  due = dues.Nothing;
+}
 replied state (replies.Full n) = given_up (whys.Full n) state
 replied state (replies.Busy task) = given_up (whys.Busy (port_of state.phase) task) state
 replied state (replies.Short n) = given_up (whys.Short (port_of state.phase) n) state
@@ -188,13 +193,13 @@ answered state (Ok reply) = replied state reply
 answered state (Err refused) = given_up whys.Memory state
 
 -- an attempt that is out of memory is given up, unless it has ended
-abbrev pub in_want_of : Option Outcome → AttemptState → AttemptState
-in_want_of None state = given_up whys.Memory state
-in_want_of (Some outcome) state = state
+abbrev pub out_of_memory_of : Option Outcome → AttemptState → AttemptState
+out_of_memory_of None state = given_up whys.Memory state
+out_of_memory_of (Some outcome) state = state
 
 -- it found no memory itself, which ends it unless it has ended
-abbrev pub in_want : AttemptState → AttemptState
-in_want state = in_want_of state.ended state
+abbrev pub out_of_memory : AttemptState → AttemptState
+out_of_memory state = out_of_memory_of state.ended state
 
 -- one step: the ask, and its answer
 abbrev pub after : AttemptState → MaybeReply → AttemptState
@@ -207,11 +212,11 @@ after_all state answers = fold after state answers
 -- the attempt after these answers, if it found no memory after so many of them
 abbrev pub attempt_after : ClaimPlan → TaskId → Option ℕ → List MaybeReply → AttemptState
 attempt_after plan task None answers = after_all (begun plan task) answers
-attempt_after plan task (Some n) answers = if nat_le n (length answers) then after_all (in_want (after_all (begun plan task) (take n answers))) (drop n answers) else after_all (begun plan task) answers
+attempt_after plan task (Some n) answers = if nat_le n (length answers) then after_all (out_of_memory (after_all (begun plan task) (take n answers))) (drop n answers) else after_all (begun plan task) answers
 
 -- after this answer, or given up then out of memory
 abbrev pub IsAfter : AttemptState → MaybeReply → AttemptState → Type 0
-IsAfter state answer new = (new ≡ answered state answer) ⊎ (new ≡ in_want (answered state answer))
+IsAfter state answer new = (new ≡ answered state answer) ⊎ (new ≡ out_of_memory (answered state answer))
 
 -- after this reply, or given up then out of memory
 abbrev pub IsAfterReply : AttemptState → Reply → AttemptState → Type 0

@@ -12,10 +12,10 @@ use Rattle.ccr_claim.specs.declared.outcomes.Next.{Next}
 use Rattle.ccr_claim.specs.declared.outcomes.Next.TheVariants as nexts
 use Rattle.ccr_claim.specs.declared.plan.ClaimPlan.{ClaimPlan}
 use Rattle.ccr_claim.specs.Asks.{MaybeReply, is_settling, may_come}
-use Rattle.ccr_claim.specs.Attempts.{AttemptState, at_place, begun, next, sent, after, after_all, in_want, attempt_after, cut_ask, put_asks, waits}
+use Rattle.ccr_claim.specs.Attempts.{AttemptState, at_place, begun, next, sent, after, after_all, out_of_memory, attempt_after, cut_ask, put_asks, waits}
 
 -- an ask with its answer
-pub record Step : Type 0 where
+pub record AttemptStep : Type 0 where
   pub asked : Asked
   pub answer : MaybeReply
 
@@ -25,11 +25,11 @@ asked_in (nexts.Ask place ask) = at_place place ask ∷ []
 asked_in (nexts.Ended outcome) = []
 
 -- the step that this answer completes
-abbrev pub step_of : AttemptState → MaybeReply → List Step
+abbrev pub step_of : AttemptState → MaybeReply → List AttemptStep
 step_of state answer = map (λ (asked : Asked). record { asked = asked; answer = answer }) (asked_in (next state))
 
 -- the steps that these answers complete
-abbrev pub steps_from : AttemptState → List MaybeReply → List Step
+abbrev pub steps_from : AttemptState → List MaybeReply → List AttemptStep
 steps_from state [] = []
 steps_from state (answer ∷ answers) = step_of state answer ++ steps_from (after state answer) answers
 
@@ -39,17 +39,17 @@ MayFollow state [] = Unit {0}
 MayFollow state (answer ∷ answers) = IsTrue (may_come (sent state).due answer) × MayFollow (after state answer) answers
 
 -- the attempt that found no memory after so many answers
-abbrev pub wanting : ClaimPlan → TaskId → ℕ → List MaybeReply → AttemptState
-wanting plan task n answers = in_want (after_all (begun plan task) (take n answers))
+abbrev pub short_after : ClaimPlan → TaskId → ℕ → List MaybeReply → AttemptState
+short_after plan task n answers = out_of_memory (after_all (begun plan task) (take n answers))
 
 -- the steps of the attempt, if it found no memory after so many of them
-abbrev pub steps : ClaimPlan → TaskId → Option ℕ → List MaybeReply → List Step
+abbrev pub steps : ClaimPlan → TaskId → Option ℕ → List MaybeReply → List AttemptStep
 steps plan task None answers = steps_from (begun plan task) answers
-steps plan task (Some n) answers = if nat_le n (length answers) then steps_from (begun plan task) (take n answers) ++ steps_from (wanting plan task n answers) (drop n answers) else steps_from (begun plan task) answers
+steps plan task (Some n) answers = if nat_le n (length answers) then steps_from (begun plan task) (take n answers) ++ steps_from (short_after plan task n answers) (drop n answers) else steps_from (begun plan task) answers
 
 -- the answers may come in this order; where the attempt is out of memory after so many of them, those behind may come after it gave up
 abbrev pub AreSplit : Bool → ClaimPlan → TaskId → ℕ → List MaybeReply → Type 0
-AreSplit true plan task n answers = MayFollow (begun plan task) (take n answers) × MayFollow (wanting plan task n answers) (drop n answers)
+AreSplit true plan task n answers = MayFollow (begun plan task) (take n answers) × MayFollow (short_after plan task n answers) (drop n answers)
 AreSplit false plan task n answers = MayFollow (begun plan task) answers
 
 -- its answers are such as its asks may have
@@ -58,8 +58,8 @@ AreAnswers plan task None answers = MayFollow (begun plan task) answers
 AreAnswers plan task (Some n) answers = AreSplit (nat_le n (length answers)) plan task n answers
 
 -- the asks of the steps
-abbrev pub asks_of : List Step → List Asked
-asks_of past = map (λ (step : Step). step.asked) past
+abbrev pub asks_of : List AttemptStep → List Asked
+asks_of past = map (λ (step : AttemptStep). step.asked) past
 
 -- those that settle
 abbrev pub settling : List Asked → List Asked
@@ -86,16 +86,16 @@ shot_by (Ok (replies.Fired task cuts)) = record { task = task; cuts = cuts } ∷
 shot_by _ = []
 
 -- the places at which a claim got its messages
-abbrev pub claims : List Step → List Place
-claims past = flat_map (λ (step : Step). got_at step.answer step.asked.place) past
+abbrev pub claims : List AttemptStep → List Place
+claims past = flat_map (λ (step : AttemptStep). got_at step.answer step.asked.place) past
 
 -- the places at which the task was booked
-abbrev pub bookings : List Step → List Place
-bookings past = flat_map (λ (step : Step). booked_at step.answer step.asked.place) past
+abbrev pub bookings : List AttemptStep → List Place
+bookings past = flat_map (λ (step : AttemptStep). booked_at step.answer step.asked.place) past
 
 -- the firings that were answered
-abbrev pub shots : List Step → List Shot
-shots past = flat_map (λ (step : Step). shot_by step.answer) past
+abbrev pub shots : List AttemptStep → List Shot
+shots past = flat_map (λ (step : AttemptStep). shot_by step.answer) past
 
 -- the tasks that they cut
 abbrev pub cuts_of : List Shot → List Cut
@@ -114,7 +114,7 @@ abbrev pub unbook_at : TaskId → Place → Asked
 unbook_at task place = at_place place (asks.Unbook task)
 
 -- each claim is freed, the last first, and then each booking ended
-abbrev pub released : TaskId → List Step → List Asked
+abbrev pub released : TaskId → List AttemptStep → List Asked
 released task past = map (free_at task) (reverse (claims past)) ++ map (unbook_at task) (bookings past)
 
 -- the cut tasks are unbooked, and the task is put unless it waits
@@ -122,17 +122,20 @@ abbrev pub shot_asks : Shot → List Asked
 shot_asks shot = map cut_ask shot.cuts ++ put_asks shot.task
 
 -- each claim is consumed, and then the firing completed
-abbrev pub completed : TaskId → List Step → List Asked
+abbrev pub completed : TaskId → List AttemptStep → List Asked
 completed task past = map (consume_at task) (claims past) ++ flat_map shot_asks (shots past)
 
 -- the law holds of each attempt that was so answered, by its steps and by what it is behind them
-abbrev pub OfAttempts : (ClaimPlan → TaskId → List Step → AttemptState → Type 0) → Type 0
-OfAttempts law = (plan : ClaimPlan) (task : TaskId) (lack : Option ℕ) (answers : List MaybeReply) → AreAnswers plan task lack answers → law plan task (steps plan task lack answers) (attempt_after plan task lack answers)
+abbrev pub OfAttempts : (ClaimPlan → TaskId → List AttemptStep → AttemptState → Type 0) → Type 0
+OfAttempts law =
+    (plan : ClaimPlan) (task : TaskId) (lack : Option ℕ) (answers : List MaybeReply)
+    → AreAnswers plan task lack answers
+    → law plan task (steps plan task lack answers) (attempt_after plan task lack answers)
 
 -- it never fired, and all that it settled is what it gives back
-abbrev pub IsReleased : TaskId → List Step → Type 0
+abbrev pub IsReleased : TaskId → List AttemptStep → Type 0
 IsReleased task steps = (shots steps ≡ []) × (settling (asks_of steps) ≡ released task steps)
 
 -- it fired once, and all that it settled is what that firing settles
-abbrev pub IsCompleted : TaskId → List Step → Bool → Type 0
+abbrev pub IsCompleted : TaskId → List AttemptStep → Bool → Type 0
 IsCompleted task steps waiting = ((shot : Shot) × (shots steps ≡ shot ∷ []) × (waiting ≡ waits shot.task)) × (settling (asks_of steps) ≡ completed task steps)

@@ -1,11 +1,12 @@
 //! The attempt: it books, claims port by port, commits, and settles what it has in hand.
 
-ghost use Rattle.std.specs.Prelude.{◌≡◌, ◌⊎◌, ◌==◌, ◌≤◌, [], length, vec_capacity, IsTrue, IfOk, None};
+ghost use Rattle.std.specs.Prelude.{◌≡◌, ◌⊎◌, ◌==◌, ◌≤◌, [], length, reverse, vec_capacity, IsTrue, IfOk, None};
 ghost use Rattle.ccr_claim.specs.declared.asks.Due.TheVariants as dues;
 ghost use Rattle.ccr_claim.specs.declared.asks.Reply.TheVariants as replies;
 ghost use Rattle.ccr_claim.specs.declared.outcomes.Why.TheVariants as whys;
 ghost use Rattle.ccr_claim.specs.Asks.{fits, may_come};
 ghost use Rattle.ccr_claim.specs.Attempts.{begun, next, sent, replied, given_up, port_of, progress_of, IsAfter, IsAfterReply};
+ghost use Rattle.ccr_claim.specs.Plans.{slots_in};
 
 use crate::firing::{Firing, ready};
 use crate::hand::{claim, completion, release, resumes, stage_due, unanswered_by};
@@ -68,6 +69,29 @@ fn cleared(had: Vec<Had>, room: usize) -> Result<Vec<Had>, OutOfMemory>
     Ok(had)
 }
 
+/// An attempt that has asked nothing yet, with its slots and no claims.
+fn unasked(alloc: Global, plan: ClaimPlan, task: TaskId, left: Vec<Slot>, had: Vec<Had>) -> Attempt
+    requires left { left.items ≡ reverse (slots_in plan.pattern) }
+    requires had { had.items ≡ [] }
+    requires room { length left.items ≤ vec_capacity had }
+    ensures { result ≡ begun plan task }
+{
+    Attempt {
+        alloc,
+        plan,
+        task,
+        stage: Stage::Booking,
+        unanswered: Unanswered::Nothing,
+        left,
+        had,
+        firing: None,
+        booked: false,
+        cuts: VecDeque::new(alloc),
+        put: None,
+        dropped: None,
+    }
+}
+
 impl Attempt {
     /// An attempt that has asked nothing yet. Takes the memory for its slots.
     pub fn begin(alloc: Global, plan: ClaimPlan, task: TaskId) -> Result<Attempt, OutOfMemory>
@@ -75,20 +99,7 @@ impl Attempt {
     {
         let left = in_order(alloc, &plan.pattern)?;
         let had = Vec::with_capacity(alloc, left.len())?;
-        Ok(Attempt {
-            alloc,
-            plan,
-            task,
-            stage: Stage::Booking,
-            unanswered: Unanswered::Nothing,
-            left,
-            had,
-            firing: None,
-            booked: false,
-            cuts: VecDeque::new(alloc),
-            put: None,
-            dropped: None,
-        })
+        Ok(unasked(alloc, plan, task, left, had))
     }
 
     /// The same in the memory of an earlier attempt, which is done with. Where that has room for the slots, it takes none.
@@ -117,20 +128,7 @@ impl Attempt {
             queue,
             arbiter,
         };
-        Ok(Attempt {
-            alloc,
-            plan,
-            task,
-            stage: Stage::Booking,
-            unanswered: Unanswered::Nothing,
-            left,
-            had,
-            firing: None,
-            booked: false,
-            cuts: VecDeque::new(alloc),
-            put: None,
-            dropped: None,
-        })
+        Ok(unasked(alloc, plan, task, left, had))
     }
 
     /// Moves out the next ask, or tells how the attempt ended; a dropped task is handed out once. Takes no memory.

@@ -12,8 +12,8 @@ use std::marker::Model;
 #[derive(Drop)]
 pub struct Lines<'w> {
     script: &'w [ScriptPost],
-    /// How many lines are posted.
-    place: u32,
+    /// That of the next line: how many are posted.
+    index: u32,
 }
 
 impl<'w> Model for Lines<'w> {
@@ -22,35 +22,35 @@ impl<'w> Model for Lines<'w> {
 
     ghost Value = { LinesLeft };
 
-    ghost view = { λ lines. record { place = lines.place; left = drop lines.place lines.script.now } };
+    ghost view = { λ lines. record { index = lines.index; left = drop lines.index lines.script.now } };
 }
 
 impl<'w> Lines<'w> {
     /// All lines of the script.
     pub fn of(script: &'w [ScriptPost]) -> Lines<'w>
-        ensures { result ≡ record { place = 0; left = script.now } }
+        ensures { result ≡ record { index = 0; left = script.now } }
     {
-        Lines { script, place: 0 }
+        Lines { script, index: 0 }
     }
 
-    /// How many lines are posted.
-    pub fn place(&self) -> u32
-        ensures { result ≡ self.now.place }
+    /// The index of the next line: how many are posted.
+    pub fn index(&self) -> u32
+        ensures { result ≡ self.now.index }
     {
-        self.place
+        self.index
     }
 
     /// The next line.
     pub fn next(&self) -> Option<&'w ScriptPost>
         ensures { MatchOption result (self.now.left ≡ []) (λ post. self.now.left ≡ post.now ∷ drop 1 self.now.left) }
     {
-        self.script.get(self.place as usize)
+        self.script.get(self.index as usize)
     }
 
     /// Moves out the post of the next line, with these causes; where no line is left the poster leaves.
     pub fn ask(&self, number: ActorNo, causes: &mut Option<List<CauseNo>>) -> Asked
         requires { IsLineOf self.now.left causes.old }
-        ensures { result ≡ line_ask number self.now.place self.now.left }
+        ensures { result ≡ line_ask number self.now.index self.now.left }
     {
         let Some(sent) = self.next() else {
             return Asked {
@@ -66,7 +66,7 @@ impl<'w> Lines<'w> {
             ask: Ask::Post(Msg {
                 id: MsgId::Script {
                     actor: number,
-                    place: self.place(),
+                    place: self.index(),
                 },
                 port: sent.port(),
                 value: sent.value(),
@@ -78,12 +78,12 @@ impl<'w> Lines<'w> {
     /// The lines behind the next one.
     pub fn behind(self) -> Lines<'w>
         requires line { 0 < length self.left }
-        requires few { self.place + length self.left < 2 ^ 32 }
-        ensures { result ≡ record { place = self.entry.place + 1; left = drop 1 self.entry.left } }
+        requires few { self.index + length self.left < 2 ^ 32 }
+        ensures { result ≡ record { index = self.entry.index + 1; left = drop 1 self.entry.left } }
     {
         Lines {
             script: self.script,
-            place: self.place + 1,
+            index: self.index + 1,
         }
     }
 }

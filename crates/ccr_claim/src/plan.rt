@@ -8,6 +8,7 @@ pub struct ClaimPlan {
     pub spot: Spot,
     pub pattern: Pattern,
     pub queue: QueueNo,
+    /// The number of the domain of its branch.
     pub arbiter: ArbiterNo,
 }
 

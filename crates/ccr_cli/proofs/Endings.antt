@@ -5,10 +5,11 @@ use Rattle.ccr_io.specs.Faults.{Rose}
 use Rattle.ccr_commands.specs.declared.status.Status.TheVariants.{Shed, Illegal}
 use Rattle.ccr_words.specs.declared.requests.Command.{Command}
 use Rattle.ccr_words.specs.declared.requests.Command.TheVariants.{Check, Run, Verify, Record, Replay, Steps, Steady, Service, Expand}
+use Rattle.ccr_commands.specs.Exits.{exit_shed, exit_illegal}
 use Rattle.ccr_commands.specs.Answers.{may_end}
 use Rattle.ccr_cli.specs.Ends.{statuses_of}
 
-pub shed_may_come : (command : Command) → may_end command Shed ≡ true → Contains (statuses_of command) 6
+pub shed_may_come : (command : Command) → may_end command Shed ≡ true → Contains (statuses_of command) exit_shed
 shed_may_come Check may = absurd cc
 shed_may_come (Run workers schedule) may = (2, omega arith, refl)
 shed_may_come Verify may = absurd cc
@@ -19,7 +20,7 @@ shed_may_come Steady may = absurd cc
 shed_may_come (Service workers) may = absurd cc
 shed_may_come Expand may = absurd cc
 
-pub fault_may_come : (command : Command) → may_end command Illegal ≡ true → Contains (statuses_of command) 7
+pub fault_may_come : (command : Command) → may_end command Illegal ≡ true → Contains (statuses_of command) exit_illegal
 fault_may_come Check may = absurd cc
 fault_may_come (Run workers schedule) may = absurd cc
 fault_may_come Verify may = (2, omega arith, refl)

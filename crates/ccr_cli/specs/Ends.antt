@@ -4,17 +4,18 @@ use Rattle.ccr_io.specs.Bytes.{IsAdded, IsPrefixAdded}
 use Rattle.ccr_words.specs.declared.requests.Command.{Command}
 use Rattle.ccr_words.specs.declared.requests.Command.TheVariants.{Run, Verify}
 use Rattle.ccr_commands.specs.declared.status.Status.{Status}
+use Rattle.ccr_commands.specs.Exits.{exit_done, exit_no_memory, exit_shed, exit_illegal}
 use Rattle.ccr_commands.specs.Answers.{IsDue, IsAccepted}
 
--- what may come beside 0
+-- what may come beside `exit_done`
 abbrev pub further_statuses : Command → List ℕ
-further_statuses (Run workers schedule) = 6 ∷ []
-further_statuses Verify = 7 ∷ []
+further_statuses (Run workers schedule) = exit_shed ∷ []
+further_statuses Verify = exit_illegal ∷ []
 further_statuses _ = []
 
--- the exit statuses where a wiring is read and no fault comes; 5 is running out of memory
+-- the exit statuses where a wiring is read and no fault comes
 abbrev pub statuses_of : Command → List ℕ
-statuses_of command = 0 ∷ 5 ∷ further_statuses command
+statuses_of command = exit_done ∷ exit_no_memory ∷ further_statuses command
 
 -- where the input is of the command's form, and neither reading nor writing had a fault, the status is one of these
 abbrev pub IsOwnEnd : Command → Option (List ℕ) → Type 0 → Type 0 → ℕ → Type 0

@@ -31,14 +31,14 @@ use Rattle.ccr_model.proofs.LegalParts.{along_legal, legal_push}
 use Rattle.ccr_model.proofs.Members.{Among, Among-right}
 use Rattle.ccr_base.proofs.Options.{some_of}
 use Rattle.ccr_model.proofs.PostNames.{refused_not}
-use Rattle.ccr_model.proofs.Pushes.{posts-push}
+use Rattle.ccr_model.proofs.OneMoreEvent.{posts-push}
 use Rattle.ccr_model.proofs.TakenOnce.{FireFacts-allowed}
 use Rattle.ccr_net.proofs.Known.CausesAreKnown.{fine_causes, posted_fine}
 use Rattle.ccr_trace.specs.Known.{AreKnown, HasMessages, HaveMessages, IsKnown, IsKnownEnd, IsKnownSpot}
 use Rattle.ccr_trace.specs.Values.{HasSmallValue, HaveSmallValues, IsSmallEnd, IsSmallValue}
 use Rattle.ccr_trace.proofs.SingleValues.{of_version, same_single}
 use Rattle.ccr_commands.proofs.SinglePosts.{failed_single, posted_single}
-use Rattle.ccr_commands.proofs.Taking.{choice_takes_some}
+use Rattle.ccr_commands.proofs.FiringsNameMessages.{choice_takes_some}
 
 -- a task failed with the value with which its play ends
 failed_as : (value : List ℕ) (end : PlayEnd) → ends_so (ends.Failed value) end ≡ true → (other : List ℕ) × (end ≡ plays.Failed other) × (same_value value other ≡ true)

@@ -1,13 +1,14 @@
 pub mod Bounds
 pub mod Inputs
-pub mod Judged
+pub mod FoundOnce
 pub mod Statuses
 pub mod SinglePosts
-pub mod Taking
+pub mod FiringsNameMessages
 pub mod KnownEvents
 pub mod FoundLegal
 mod ToldAsTurns
-mod Due
-mod Told
+mod TurnsToRest
+mod GivenIsDue
+mod TotalsAreTold
 mod ReadAgain
 pub mod ShedEnds

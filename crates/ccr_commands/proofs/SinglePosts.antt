@@ -34,7 +34,7 @@ use Rattle.ccr_base.proofs.Booleans.{both, neither}
 use Rattle.ccr_model.proofs.Members.{Among, Among-at, Among-either, Among-left, Among-right}
 use Rattle.ccr_base.proofs.Options.{some_of, some_then}
 use Rattle.ccr_model.proofs.PostNames.{along, refused_not}
-use Rattle.ccr_model.proofs.Pushes.{posts-push}
+use Rattle.ccr_model.proofs.OneMoreEvent.{posts-push}
 use Rattle.ccr_trace.specs.Values.{IsSingle}
 use Rattle.ccr_trace.proofs.SingleValues.{AreSingle, not_long, same_single}
 use Rattle.ccr_trace.proofs.SinglePlays.{IsPlaySingle, no_play_single, play_single}

@@ -15,7 +15,7 @@ use Rattle.ccr_commands.specs.Loads.{LoadGives}
 use Rattle.ccr_commands.specs.Findings.{IsFound, is_fault}
 use Rattle.ccr_commands.specs.Answers.{may_end, Answers, AnswersInput, AnswersRequest, IsDue, IsAccepted, IsDeclined, IsExcessive, IsVerified}
 use Rattle.ccr_commands.proofs.Inputs.{apart}
-use Rattle.ccr_commands.proofs.Judged.{no_fault_beside}
+use Rattle.ccr_commands.proofs.FoundOnce.{no_fault_beside}
 
 for_none : (o : Option Request) (rest : Option (List ℕ)) (status : Status) (text : List ℕ) → AnswersRequest o rest status text → o ≡ None → status ≡ Usage
 for_none (Some request) rest status text due is = absurd cc

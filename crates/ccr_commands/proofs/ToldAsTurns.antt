@@ -1,5 +1,5 @@
 -- The run of threads is the run of the turns of its entries' actors.
-use Rattle.std.proofs.Common.{◌≡◌, ℕ, zero, suc, ◌<◌, ◌+◌, Bool, List, length, Some, None, sym, ap, ◌∙◌, arith}
+use Rattle.std.proofs.Common.{◌≡◌, ℕ, zero, suc, ◌<◌, ◌+◌, Bool, List, length, None, sym, ap, ◌∙◌, arith}
 use Rattle.std.specs.Prelude.{All}
 use Rattle.ccr_wiring.specs.declared.parts.Parts.{Parts}
 use Rattle.ccr_runs.specs.declared.entries.Entry.{Entry}
@@ -7,7 +7,7 @@ use Rattle.ccr_runs.specs.EntryRuns.{scheduled}
 use Rattle.ccr_runs.specs.Visible.{visible}
 use Rattle.ccr_replay.specs.Schedules.{schedule, IsOfNextSteps}
 use Rattle.ccr_commands.specs.Records.{IsToldAsTurns}
-use Rattle.ccr_commands.specs.Runs.{IsRun, IsRunHistory}
+use Rattle.ccr_commands.specs.Runs.{IsRun}
 
 module _ (again : (w : Parts) (n : ℕ) (es : List Entry) → IsOfNextSteps w n es → scheduled w (schedule es) ≡ es)
     (actors : (w : Parts) (n : ℕ) (es : List Entry) → IsOfNextSteps w n es → All (λ actor. actor < length w.posters + n) (schedule es)) where

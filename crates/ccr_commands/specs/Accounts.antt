@@ -18,7 +18,10 @@ use Rattle.ccr_laws.specs.WholePattern.{TakesWhole}
 
 -- every poster's posts stand once and in order, and are its whole script
 abbrev pub ScriptsStand : Parts → List Event → Type 0
-ScriptsStand wiring history = (number : ℕ) (poster : PosterPart) → slice_get wiring.posters number ≡ Some poster → FollowsScript history number poster.posts × (map sent_of (posts_by history number) ≡ poster.posts)
+ScriptsStand wiring history =
+    (number : ℕ) (poster : PosterPart)
+    → slice_get wiring.posters number ≡ Some poster
+    → FollowsScript history number poster.posts × (map sent_of (posts_by history number) ≡ poster.posts)
 
 -- every posted message is held by its port, or taken by one task that stands in one state
 abbrev pub MessagesHaveOneFate : Parts → List Event → Type 0
@@ -30,7 +33,10 @@ MessagesAreTakenOnce history = (name : MsgId) → times_taken history name ≤ 1
 
 -- every firing takes its whole pattern from what its ports held
 abbrev pub FiringsTakeWholePatterns : Parts → List Event → Type 0
-FiringsTakeWholePatterns wiring history = (past : List Event) (task : TaskId) (spot : Spot) (messages : List MsgId) (cuts : List TaskId) → Occurs history past (Fire task spot messages cuts) → TakesWhole wiring past spot messages
+FiringsTakeWholePatterns wiring history =
+    (past : List Event) (task : TaskId) (spot : Spot) (messages : List MsgId) (cuts : List TaskId)
+    → Occurs history past (Fire task spot messages cuts)
+    → TakesWhole wiring past spot messages
 
 -- the wiring is valid, each poster posted its script, and each message that was accepted is held or taken by exactly one firing, which took its whole pattern
 pub record AccountsForAll (wiring : Parts) (history : List Event) : Type 0 where

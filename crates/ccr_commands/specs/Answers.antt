@@ -114,7 +114,11 @@ IsExcessive command (Some bytes) = limit_of command < length bytes
 -- the source tells its bytes, and they say a wiring and an output in which there is a fault, or none
 abbrev pub IsVerified : Bool → Option (List ℕ) → Type 0
 IsVerified fault None = ⊥
-IsVerified fault (Some bytes) = (length bytes ≤ limit_of Verify) × ((wiring : Parts) × (finding : Finding) × (reading_input Verify bytes ≡ Ok wiring) × IsFound wiring (history_index bytes).1 (output_part bytes) finding × (is_fault finding ≡ fault))
+IsVerified fault (Some bytes) =
+    (length bytes ≤ limit_of Verify)
+    × ((wiring : Parts) × (finding : Finding) × (reading_input Verify bytes ≡ Ok wiring)
+    × IsFound wiring (history_index bytes).1 (output_part bytes) finding
+    × (is_fault finding ≡ fault))
 
 -- what was read to its end is exhausted: a source that told its bytes has none left
 abbrev pub IsExhausted : Status → Option (List ℕ) → Option (List ℕ) → Type 0

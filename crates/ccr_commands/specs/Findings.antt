@@ -43,9 +43,16 @@ difference wiring before output read = first_difference (before + read.lines + 1
 -- some rule; its report or last line differ; else it is legal, complete or not, and quiet or not
 abbrev pub IsFound : Parts → ℕ → List ℕ → Finding → Type 0
 IsFound wiring before output (Malformed line code) = reading_output wiring before output ≡ Err (line, code)
-IsFound wiring before output (Illegal line rule) = (read : ReadHistory) × (index : ℕ) × (reading_output wiring before output ≡ Ok read) × (first_refusal wiring [] 0 read.history ≡ Some (index, rule)) × (line ≡ before + 2 + index)
+IsFound wiring before output (Illegal line rule) =
+    (read : ReadHistory) × (index : ℕ) × (reading_output wiring before output ≡ Ok read)
+    × (first_refusal wiring [] 0 read.history ≡ Some (index, rule))
+    × (line ≡ before + 2 + index)
 IsFound wiring before output (Misreported line) = (read : ReadHistory) × IsLegalOutput wiring before output read × (difference wiring before output read ≡ Some line)
-IsFound wiring before output (Legal complete quiet) = (read : ReadHistory) × IsLegalOutput wiring before output read × (difference wiring before output read ≡ None) × (complete ≡ is_complete wiring read.history) × MeansQuiet wiring read.history quiet
+IsFound wiring before output (Legal complete quiet) =
+    (read : ReadHistory) × IsLegalOutput wiring before output read
+    × (difference wiring before output read ≡ None)
+    × (complete ≡ is_complete wiring read.history)
+    × MeansQuiet wiring read.history quiet
 
 -- in the text of a run of the wiring, if that is valid, it finds behind so many lines that it is legal, complete and quiet
 abbrev pub RunIsFoundLegal : Parts → ℕ → Option (List ℕ) → Bool → List ℕ → ℕ → Type 0

@@ -1,6 +1,8 @@
 -- What stands where in an input.
-use Rattle.std.specs.Prelude.{ℕ, ◌+◌, ◌==◌, Bool, true, false, List, [], ◌∷◌, length, take, drop, codes, Option, Some, None, Result, Ok, Err, if◌then◌else◌}
+use Rattle.std.specs.Prelude.{ℕ, ◌+◌, ◌==◌, Bool, true, false, List, [], ◌∷◌, take, drop, codes, Option, Some, None, Result, Ok, Err, if◌then◌else◌}
+use Rattle.ccr_base.specs.Bounds.{most_bytes, most_wiring_bytes}
 use Rattle.ccr_text.specs.Lines.{line_of}
+use Rattle.ccr_wiring.specs.Actors.{actor_count}
 use Rattle.ccr_wiring.specs.declared.parts.Parts.{Parts}
 use Rattle.ccr_wiretext.specs.Reading.{reading_text}
 use Rattle.ccr_replay.specs.Turns.{reading_turns}
@@ -10,14 +12,14 @@ use Rattle.ccr_service.specs.declared.parts.ServiceParts.{ServiceParts}
 use Rattle.ccr_service.specs.Expansion.{expansion}
 use Rattle.ccr_service.specs.Reading.{reading_text as reading_service}
 use Rattle.ccr_words.specs.declared.requests.Command.{Command}
-use Rattle.ccr_words.specs.declared.requests.Command.TheVariants.{Check, Run, Verify, Record, Replay, Steps, Steady, Service, Expand}
+use Rattle.ccr_words.specs.declared.requests.Command.TheVariants.{Run, Verify, Replay, Steps, Service, Expand}
 
 -- the most bytes that an input may have
 abbrev pub limit_of : Command → ℕ
-limit_of Verify = 33554432
-limit_of Replay = 33554432
-limit_of Steps = 33554432
-limit_of _ = 1048576
+limit_of Verify = most_bytes
+limit_of Replay = most_bytes
+limit_of Steps = most_bytes
+limit_of _ = most_wiring_bytes
 
 -- where the first line begins whose first word is `history`, and how many lines stand before it
 abbrev pub history_index : List ℕ → ℕ × ℕ
@@ -45,7 +47,7 @@ turn_part bytes = drop (turn_index bytes).0 bytes
 
 -- the turns of the posters and so many workers, or the first offending line and its code
 abbrev pub turns_in : Parts → ℕ → List ℕ → Result (List ℕ) (ℕ × ℕ)
-turns_in wiring workers bytes = reading_turns (turn_part bytes) (turn_index bytes).1 (length wiring.posters + workers)
+turns_in wiring workers bytes = reading_turns (turn_part bytes) (turn_index bytes).1 (actor_count wiring workers)
 
 -- the wiring, where the turns behind it are read too
 abbrev pub with_turns : ℕ → List ℕ → Result Parts (ℕ × ℕ) → Result Parts (ℕ × ℕ)

@@ -7,3 +7,4 @@ pub mod Steady
 pub mod Services
 pub mod Findings
 pub mod Answers
+pub mod Exits

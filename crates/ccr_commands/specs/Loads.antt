@@ -1,6 +1,7 @@
 -- What a load writes.
-use Rattle.std.specs.Prelude.{◌≡◌, ℕ, ◌+◌, Bool, true, false, List, [], ◌∷◌, ◌++◌, length, codes, decimal, None}
+use Rattle.std.specs.Prelude.{◌≡◌, ℕ, Bool, true, false, List, [], ◌∷◌, ◌++◌, codes, decimal, None}
 use Rattle.ccr_text.specs.Spelling.{line_text}
+use Rattle.ccr_wiring.specs.Actors.{actor_count}
 use Rattle.ccr_wiring.specs.declared.parts.Parts.{Parts}
 use Rattle.ccr_model.specs.declared.history.Event.{Event}
 use Rattle.ccr_model.specs.declared.history.Totals.{Totals}
@@ -40,7 +41,7 @@ pub record IsLoadOf (wiring : Parts) (size workers : ℕ) (json : Bool) (text : 
   pub first : List Event
   pub begins : Begins wiring workers None first
   pub history : List Event
-  pub finished : IsFinished wiring (length wiring.posters + workers) first history
+  pub finished : IsFinished wiring (actor_count wiring workers) first history
   pub legal : IsLegal wiring history
   pub complete : is_complete wiring history ≡ true
   pub quiet : IsQuiet wiring history

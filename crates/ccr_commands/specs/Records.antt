@@ -1,6 +1,7 @@
 -- What is written of records: a run as whose turn it was, the run that those turns give again, and its steps.
 use Rattle.std.specs.Prelude.{◌≡◌, ◌<◌, ◌≤◌, ◌+◌, ℕ, zero, suc, All, Bool, false, List, [], length, Some, Ok}
 use Rattle.ccr_base.specs.Bounds.{most_wiring_bytes, most_workers}
+use Rattle.ccr_wiring.specs.Actors.{actor_count}
 use Rattle.ccr_wiring.specs.declared.parts.Parts.{Parts}
 use Rattle.ccr_wiretext.specs.Reading.{reading_text}
 use Rattle.ccr_runs.specs.EntryRuns.{scheduled}
@@ -19,7 +20,10 @@ use Rattle.ccr_commands.specs.declared.status.Status.TheVariants.{Done}
 -- that run is what some closed locks tell, whose passes all came to rest. Without workers there are none
 abbrev pub AreTurnsToRest : Parts → ℕ → List ℕ → Type 0
 AreTurnsToRest wiring zero turns = turns ≡ []
-AreTurnsToRest wiring (suc n) turns = IsRunToRest wiring (suc n) (scheduled wiring turns) × (turns ≡ schedule (scheduled wiring turns)) × IsBroughtToRest wiring (length wiring.posters + suc n) (scheduled wiring turns) []
+AreTurnsToRest wiring (suc n) turns =
+    IsRunToRest wiring (suc n) (scheduled wiring turns)
+    × (turns ≡ schedule (scheduled wiring turns))
+    × IsBroughtToRest wiring (actor_count wiring (suc n)) (scheduled wiring turns) []
 
 -- the text that is due for a record: the wiring's bytes as they were read, and such turns
 abbrev pub RecordGives : Parts → ℕ → List ℕ → Status → List ℕ → Type 0
@@ -38,7 +42,7 @@ StepsGives said _ text = ⊥
 
 -- some turns of the posters and so many workers give a scheduled run that has this text
 abbrev pub IsToldAsTurns : Bool → Parts → ℕ → Bool → List ℕ → Type 0
-IsToldAsTurns json wiring workers shed text = (turns : List ℕ) × All (λ actor. actor < length wiring.posters + workers) turns × IsRun json wiring workers (Some turns) shed text
+IsToldAsTurns json wiring workers shed text = (turns : List ℕ) × All (λ actor. actor < actor_count wiring workers) turns × IsRun json wiring workers (Some turns) shed text
 
 -- the text is read as a record of the wiring and so many workers, with such turns
 abbrev pub IsReadAgain : Parts → ℕ → List ℕ → Type 0

@@ -1,5 +1,6 @@
 -- What a run writes.
-use Rattle.std.specs.Prelude.{◌≡◌, ℕ, ◌+◌, Bool, true, false, List, [], ◌∷◌, ◌++◌, length, codes, Option}
+use Rattle.std.specs.Prelude.{◌≡◌, ℕ, Bool, true, false, List, [], ◌∷◌, ◌++◌, codes, Option}
+use Rattle.ccr_wiring.specs.Actors.{actor_count}
 use Rattle.ccr_wiring.specs.declared.parts.Parts.{Parts}
 use Rattle.ccr_model.specs.declared.history.Event.{Event}
 use Rattle.ccr_model.specs.Legal.{IsLegal, IsQuiet, has_shed, is_complete}
@@ -32,7 +33,7 @@ report_of true wiring history = report_json wiring history
 pub record IsRunHistory (wiring : Parts) (workers : ℕ) (turns : Option (List ℕ)) (shed : Bool) (history : List Event) : Type 0 where
   pub first : List Event
   pub begins : Begins wiring workers turns first
-  pub finished : IsFinished wiring (length wiring.posters + workers) first history
+  pub finished : IsFinished wiring (actor_count wiring workers) first history
   pub legal : IsLegal wiring history
   pub complete : is_complete wiring history ≡ true
   pub quiet : IsQuiet wiring history

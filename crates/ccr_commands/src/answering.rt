@@ -3,16 +3,15 @@
 ghost use Rattle.std.specs.Prelude.{◌≡◌, ◌≤◌, Bool, ℕ, None, Some, true, false, IfOk, IfSome, IsErrOf, length};
 ghost use Rattle.ccr_base.specs.Bounds.{most_bytes, most_wiring_bytes, most_workers};
 ghost use Rattle.ccr_io.specs.Faults.{Rose};
-ghost use Rattle.ccr_wiretext.specs.Answers.{IsReading};
 ghost use Rattle.ccr_words.specs.AskedFor.{asked_for};
 ghost use Rattle.ccr_words.specs.Table.{HasFewWorkers, IsWithin};
 ghost use Rattle.ccr_words.specs.declared.requests.Command.TheVariants.{Check, Run, Verify};
 ghost use Rattle.ccr_words.specs.declared.requests.Request.TheVariants.{Read, Load};
 ghost use Rattle.ccr_commands.specs.Inputs.{limit_of};
-ghost use Rattle.ccr_commands.specs.Answers.{AnswersText, AnswersInput, AnswersRequest, RefusedGives, IsDue, IsExhausted, IsExhaustedFor, IsAccepted, IsDeclined, IsExcessive, IsVerified, OfCommand, may_end, reads};
+ghost use Rattle.ccr_commands.specs.Answers.{AnswersText, AnswersInput, AnswersRequest, IsDue, IsExhausted, IsExhaustedFor, IsAccepted, IsDeclined, IsExcessive, IsVerified, OfCommand, may_end, reads};
 
 use crate::load::load;
-use crate::outcomes::{Outcome, check, refused, too_long, usage};
+use crate::outputs::{Output, check, refused, too_long, usage};
 use crate::recording::answer_record;
 use crate::replaying::{answer_replay, answer_steps};
 use crate::run::run;
@@ -48,7 +47,7 @@ fn limit_of(command: Command) -> usize
     }
 }
 
-fn answer_check(alloc: Global, text: &[u8], json: bool) -> Result<Outcome, OutOfMemory>
+fn answer_check(alloc: Global, text: &[u8], json: bool) -> Result<Output, OutOfMemory>
     requires { length text.now ≤ most_wiring_bytes }
     ensures { IfOk result (λ due. AnswersText Check json text.now due.status due.text) }
 {
@@ -64,7 +63,7 @@ fn answer_run<R: AllocGlobal + Threads + Wait + Sync, G: Gate + Sync>(
     text: &[u8],
     workers: u32,
     json: bool,
-) -> Result<Outcome, OutOfMemory>
+) -> Result<Output, OutOfMemory>
     requires workers { workers ≤ most_workers }
     requires length { length text.now ≤ most_wiring_bytes }
     ensures { IfOk result (λ due. AnswersText (Run workers false) json text.now due.status due.text) }
@@ -81,7 +80,7 @@ fn answer_text<R: AllocGlobal + Threads + Wait + Sync, G: Gate + Sync>(
     command: Command,
     text: &[u8],
     json: bool,
-) -> Result<Outcome, OutOfMemory>
+) -> Result<Output, OutOfMemory>
     requires workers { HasFewWorkers command }
     requires length { length text.now ≤ limit_of command }
     ensures { IfOk result (λ due. AnswersText command json text.now due.status due.text) }
@@ -113,7 +112,7 @@ fn answer_input<R: AllocGlobal + Threads + Wait + Sync, S: Source, G: Gate + Syn
     command: Command,
     source: &mut S,
     json: bool,
-) -> Result<Outcome, Failure>
+) -> Result<Output, Failure>
     requires { HasFewWorkers command }
     ensures due { IfOk result (λ due. AnswersInput command json (S.rest source.old) due.status due.text) }
     ensures exhausted { IfOk result (λ due. IsExhausted due.status (S.rest source.old) (S.rest source.new)) }
@@ -133,7 +132,7 @@ fn answer_request<R: AllocGlobal + Threads + Wait + Sync, S: Source, G: Gate + S
     gate: &G,
     request: Option<Request>,
     source: &mut S,
-) -> Result<Outcome, Failure>
+) -> Result<Output, Failure>
     requires { IfSome request IsWithin }
     ensures due { IfOk result (λ due. AnswersRequest request (S.rest source.old) due.status due.text) }
     ensures exhausted { IfOk result (λ due. IsExhaustedFor request due.status (S.rest source.old) (S.rest source.new)) }
@@ -163,7 +162,7 @@ pub fn answer_words<R: AllocGlobal + Threads + Wait + Sync, S: Source, G: Gate +
     gate: &G,
     words: &[Name],
     source: &mut S,
-) -> Result<Outcome, Failure>
+) -> Result<Output, Failure>
     ensures due { IfOk result (λ due. IsDue due.status words.now (S.rest source.old) due.text) }
     ensures usage { asked_for words.now ≡ None → IfOk result (λ due. due.status ≡ Status.Usage) }
     ensures refused { OfCommand words.now (λ command. IsDeclined command (S.rest source.old) → IfOk result (λ due. due.status ≡ Status.Refused)) }

@@ -16,7 +16,7 @@ use ccr_base::{List, OutOfMemory};
 use ccr_report::{Counts, counted_text};
 use ccr_telling::{Judgement, LegalText, judge_text};
 use ccr_text::put_bytes;
-use ccr_trace::{Code, HistoryRefused};
+use ccr_trace::{HistoryCode, HistoryRefused};
 use ccr_wiring::Wiring;
 use std::alloc::Global;
 
@@ -102,7 +102,7 @@ pub fn finding_of(
     if output.is_empty() {
         return Ok(Finding::Malformed {
             line: before.max(1),
-            code: Code::Unfinished.number(),
+            code: HistoryCode::Unfinished.number(),
         });
     }
     match judge_text(alloc, wiring, output) {

@@ -1,10 +1,11 @@
 //! The history of a run, kept whole for what looks for tasks in it: the answers to a service's requests.
 
-ghost use Rattle.std.specs.Prelude.{◌≡◌, ◌<◌, ◌≤◌, ◌+◌, ◌^◌, true, length, All, IfOk, OnOk, IfSome, option_map};
+ghost use Rattle.std.specs.Prelude.{◌≡◌, ◌<◌, ◌≤◌, true, length, All, IfOk, OnOk, IfSome, option_map};
 ghost use Rattle.ccr_base.specs.Bounds.{most_actors, most_workers};
+ghost use Rattle.ccr_wiring.specs.Actors.{actor_count};
 ghost use Rattle.ccr_model.specs.Firings.{fired};
 ghost use Rattle.ccr_model.specs.Legal.{IsLegal, IsQuiet, is_complete};
-ghost use Rattle.ccr_model.specs.Order.{next_attempt, IsFinished};
+ghost use Rattle.ccr_model.specs.Order.{most_attempts, next_attempt, IsFinished};
 ghost use Rattle.ccr_trace.specs.HistoryText.{history_text};
 ghost use Rattle.ccr_trace.specs.Known.{AreShort};
 ghost use Rattle.ccr_trace.specs.Values.{HaveSmallValues};
@@ -34,7 +35,7 @@ fn finish(
     requires no_poster { length wiring.now.posters ≤ closer }
     requires low { closer ≤ most_actors }
     requires legal { IsLegal wiring.now first }
-    requires attempts { next_attempt closer (fired first) ≤ 2 ^ 31 }
+    requires attempts { next_attempt closer (fired first) ≤ most_attempts }
     ensures finished { IfOk result (IsFinished wiring.now closer first) }
     ensures legal { IfOk result (IsLegal wiring.now) }
     ensures complete { IfOk result (λ history. is_complete wiring.now history ≡ true) }
@@ -55,9 +56,9 @@ pub fn run_history<R: AllocGlobal + Threads + Wait + Sync, G: Gate + Sync>(
     turns: Option<&[ActorNo]>,
 ) -> Result<(Snapshot<History>, History), OutOfMemory>
     requires workers { workers ≤ most_workers }
-    requires turns { IfSome turns (λ turns. All (λ actor. actor < length wiring.now.posters + workers) turns.now) }
+    requires turns { IfSome turns (λ turns. All (λ actor. actor < actor_count wiring.now workers) turns.now) }
     ensures begins { IfOk result (λ made. Begins wiring.now workers (option_map (λ t. t.now) turns.entry) made.0.value) }
-    ensures finished { IfOk result (λ made. IsFinished wiring.now (length wiring.now.posters + workers) made.0.value made.1) }
+    ensures finished { IfOk result (λ made. IsFinished wiring.now (actor_count wiring.now workers) made.0.value made.1) }
     ensures legal { IfOk result (λ made. IsLegal wiring.now made.1) }
     ensures complete { IfOk result (λ made. is_complete wiring.now made.1 ≡ true) }
     ensures quiet { IfOk result (λ made. IsQuiet wiring.now made.1) }

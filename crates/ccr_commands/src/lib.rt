@@ -9,7 +9,7 @@ mod judging;
 mod kept_history;
 mod laws;
 mod load;
-mod outcomes;
+mod outputs;
 mod recording;
 mod replaying;
 mod run;
@@ -25,5 +25,5 @@ pub use laws::{
     loads_write_one_text, records_are_read_as_recorded, runs_are_found_legal,
     threaded_runs_are_scheduled,
 };
-pub use outcomes::Outcome;
-pub use status::{Failure, Status};
+pub use outputs::Output;
+pub use status::{Failure, Status, Unfinished};

@@ -7,7 +7,7 @@ ghost use Rattle.ccr_steady.specs.Agreement.{is_counts, Agrees};
 ghost use Rattle.ccr_commands.specs.Loads.{totals_of, IsLoad, LoadGives};
 
 use crate::accounting::complete_histories_account_for_all;
-use crate::outcomes::Outcome;
+use crate::outputs::Output;
 use crate::status::Status;
 use ccr_actor::actor_count;
 use ccr_base::{Gate, List, OutOfMemory};
@@ -92,13 +92,13 @@ pub fn load<R: AllocGlobal + Threads + Wait + Sync, G: Gate + Sync>(
     size: u32,
     workers: u32,
     json: bool,
-) -> Result<Outcome, OutOfMemory>
+) -> Result<Output, OutOfMemory>
     requires some { 0 < size }
     requires many { size ≤ most_size }
     requires workers { workers ≤ most_workers }
     ensures { IfOk result (λ due. LoadGives size workers json due.status due.text) }
 {
-    Ok(Outcome {
+    Ok(Output {
         status: Status::Done,
         text: load_text(rt, gate, size, workers, json)?,
     })

@@ -6,7 +6,7 @@ ghost use Rattle.ccr_commands.specs.Answers.{AnswersText};
 ghost use Rattle.ccr_commands.specs.Records.{AreTurnsToRest, RecordGives};
 ghost use Rattle.ccr_words.specs.declared.requests.Command.TheVariants.{Record};
 
-use crate::outcomes::{Outcome, refused};
+use crate::outputs::{Output, refused};
 use crate::status::Status;
 use ccr_base::{ActorNo, Gate, List, OutOfMemory};
 use ccr_opening::run_threads_in_full;
@@ -15,7 +15,6 @@ use ccr_runs::Full;
 use ccr_space::Closed;
 use ccr_wiretext::read_wiring;
 use ccr_wiring::Wiring;
-use std::alloc::Global;
 use std::sync::Wait;
 use std::thread::Threads;
 
@@ -76,12 +75,12 @@ fn record<R: AllocGlobal + Threads + Wait + Sync, G: Gate + Sync>(
     text: &[u8],
     wiring: &Wiring,
     workers: u32,
-) -> Result<Outcome, OutOfMemory>
+) -> Result<Output, OutOfMemory>
     requires { workers ≤ most_workers }
     ensures { IfOk result (λ due. RecordGives wiring.now workers text.now due.status due.text) }
 {
     let turns = turns_to_rest(rt, gate, wiring, workers)?;
-    Ok(Outcome {
+    Ok(Output {
         status: Status::Done,
         text: write_record(rt.alloc(), text, workers, turns.as_slice())?,
     })
@@ -93,7 +92,7 @@ pub fn answer_record<R: AllocGlobal + Threads + Wait + Sync, G: Gate + Sync>(
     gate: &G,
     text: &[u8],
     workers: u32,
-) -> Result<Outcome, OutOfMemory>
+) -> Result<Output, OutOfMemory>
     requires workers { workers ≤ most_workers }
     requires length { length text.now ≤ most_wiring_bytes }
     ensures { (json : _) → IfOk result (λ due. AnswersText (Record workers) json text.now due.status due.text) }

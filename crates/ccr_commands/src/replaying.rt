@@ -1,12 +1,12 @@
 //! A record: its run made again, or the steps of that run.
 
-ghost use Rattle.std.specs.Prelude.{◌≡◌, ◌<◌, ◌≤◌, ◌+◌, All, IfOk, length};
+ghost use Rattle.std.specs.Prelude.{◌<◌, ◌≤◌, ◌+◌, All, IfOk, length};
 ghost use Rattle.ccr_base.specs.Bounds.{most_bytes, most_workers};
 ghost use Rattle.ccr_commands.specs.Answers.{AnswersText};
 ghost use Rattle.ccr_commands.specs.Records.{ReplayGives, StepsGives};
 ghost use Rattle.ccr_words.specs.declared.requests.Command.TheVariants.{Replay, Steps};
 
-use crate::outcomes::{Outcome, refused};
+use crate::outputs::{Output, refused};
 use crate::run::run;
 use crate::status::Status;
 use ccr_base::{Gate, OutOfMemory};
@@ -21,27 +21,27 @@ fn replay<R: AllocGlobal + Threads + Wait + Sync, G: Gate + Sync>(
     rt: &R,
     gate: &G,
     said: &Record,
-) -> Result<Outcome, OutOfMemory>
+) -> Result<Output, OutOfMemory>
     requires workers { said.now.workers ≤ most_workers }
     requires turns { All (λ actor. actor < length said.now.wiring.posters + said.now.workers) said.now.turns }
     ensures { IfOk result (λ due. ReplayGives said.now due.status due.text) }
 {
     let turns = Some(said.turns.as_slice());
-    let Outcome { status: _, text } = run(rt, gate, &said.wiring, said.workers, turns, false)?;
-    Ok(Outcome {
+    let Output { status: _, text } = run(rt, gate, &said.wiring, said.workers, turns, false)?;
+    Ok(Output {
         status: Status::Done,
         text,
     })
 }
 
 /// The steps of the run of the record's turns.
-fn steps(alloc: Global, said: &Record) -> Result<Outcome, OutOfMemory>
+fn steps(alloc: Global, said: &Record) -> Result<Output, OutOfMemory>
     requires workers { said.now.workers ≤ most_workers }
     requires turns { All (λ actor. actor < length said.now.wiring.posters + said.now.workers) said.now.turns }
     ensures { IfOk result (λ due. StepsGives said.now due.status due.text) }
 {
     let full = run_schedule(alloc, &said.wiring, said.workers, said.turns.as_slice())?;
-    Ok(Outcome {
+    Ok(Output {
         status: Status::Done,
         text: steps_text(alloc, &said.wiring, &full)?,
     })
@@ -52,7 +52,7 @@ pub fn answer_replay<R: AllocGlobal + Threads + Wait + Sync, G: Gate + Sync>(
     rt: &R,
     gate: &G,
     text: &[u8],
-) -> Result<Outcome, OutOfMemory>
+) -> Result<Output, OutOfMemory>
     requires { length text.now ≤ most_bytes }
     ensures { (json : _) → IfOk result (λ due. AnswersText Replay json text.now due.status due.text) }
 {
@@ -63,7 +63,7 @@ pub fn answer_replay<R: AllocGlobal + Threads + Wait + Sync, G: Gate + Sync>(
 }
 
 /// What `steps` writes.
-pub fn answer_steps(alloc: Global, text: &[u8]) -> Result<Outcome, OutOfMemory>
+pub fn answer_steps(alloc: Global, text: &[u8]) -> Result<Output, OutOfMemory>
     requires { length text.now ≤ most_bytes }
     ensures { (json : _) → IfOk result (λ due. AnswersText Steps json text.now due.status due.text) }
 {

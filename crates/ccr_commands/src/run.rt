@@ -1,13 +1,14 @@
 //! A run, as text: what the actors do, and what the serial order does behind it.
 
-ghost use Rattle.std.specs.Prelude.{◌≡◌, ◌<◌, ◌≤◌, ◌+◌, ◌++◌, List as Listed, length, All, IfOk, IfSome, option_map};
+ghost use Rattle.std.specs.Prelude.{◌≡◌, ◌<◌, ◌≤◌, ◌++◌, List as Listed, All, IfOk, IfSome, option_map};
 ghost use Rattle.ccr_base.specs.Bounds.{most_workers};
+ghost use Rattle.ccr_wiring.specs.Actors.{actor_count};
 ghost use Rattle.ccr_model.specs.declared.history.Event.{Event};
 ghost use Rattle.ccr_report.specs.Counted.{HasRows, IsCounted};
 ghost use Rattle.ccr_commands.specs.Runs.{report_of, IsToldOf, RunGives};
 
 use crate::accounting::complete_histories_account_for_all;
-use crate::outcomes::Outcome;
+use crate::outputs::Output;
 use crate::sheds::sheds;
 use crate::status::Status;
 use ccr_actor::actor_count;
@@ -66,7 +67,7 @@ fn tell_run<R: AllocGlobal + Threads + Wait + Sync, G: Gate + Sync>(
     turns: Option<&[ActorNo]>,
 ) -> Result<Told, OutOfMemory>
     requires workers { workers ≤ most_workers }
-    requires turns { IfSome turns (λ turns. All (λ actor. actor < length wiring.now.posters + workers) turns.now) }
+    requires turns { IfSome turns (λ turns. All (λ actor. actor < actor_count wiring.now workers) turns.now) }
     ensures { IfOk result (IsToldOf wiring.now workers (option_map (λ t. t.now) turns.entry)) }
 {
     complete_histories_account_for_all();
@@ -84,20 +85,20 @@ pub fn run<R: AllocGlobal + Threads + Wait + Sync, G: Gate + Sync>(
     workers: u32,
     turns: Option<&[ActorNo]>,
     json: bool,
-) -> Result<Outcome, OutOfMemory>
+) -> Result<Output, OutOfMemory>
     requires workers { workers ≤ most_workers }
-    requires turns { IfSome turns (λ turns. All (λ actor. actor < length wiring.now.posters + workers) turns.now) }
+    requires turns { IfSome turns (λ turns. All (λ actor. actor < actor_count wiring.now workers) turns.now) }
     ensures { IfOk result (λ due. RunGives json wiring.now workers (option_map (λ t. t.now) turns.entry) due.status due.text) }
 {
     let alloc = rt.alloc();
     let told = tell_run(rt, gate, wiring, workers, turns)?;
     if sheds(&told.counts) {
-        Ok(Outcome {
+        Ok(Output {
             status: Status::Shed,
             text: run_text(alloc, wiring, told, json, b"done 6\n")?,
         })
     } else {
-        Ok(Outcome {
+        Ok(Output {
             status: Status::Done,
             text: run_text(alloc, wiring, told, json, b"done 0\n")?,
         })

@@ -1,13 +1,14 @@
 //! An input that is a wiring with turns behind it.
 
-ghost use Rattle.std.specs.Prelude.{◌≡◌, ◌<◌, ◌≤◌, ◌+◌, All, IfErr, IfOk, Err, Ok, Some, length, true};
+ghost use Rattle.std.specs.Prelude.{◌≡◌, ◌<◌, ◌≤◌, All, IfErr, IfOk, Err, Ok, Some, length, true};
 ghost use Rattle.ccr_base.specs.Bounds.{most_wiring_bytes, most_workers};
+ghost use Rattle.ccr_wiring.specs.Actors.{actor_count};
 ghost use Rattle.ccr_wiretext.specs.Answers.{IsReading};
 ghost use Rattle.ccr_commands.specs.Answers.{AnswersText};
 ghost use Rattle.ccr_commands.specs.Inputs.{reading_run, turns_of};
 ghost use Rattle.ccr_words.specs.declared.requests.Command.TheVariants.{Run};
 
-use crate::outcomes::{Outcome, refused};
+use crate::outputs::{Output, refused};
 use crate::run::run;
 use ccr_actor::actor_count;
 use ccr_base::{ActorNo, Gate, List, OutOfMemory};
@@ -29,7 +30,7 @@ fn read_schedule(
     requires length { length text.now ≤ most_wiring_bytes }
     ensures wiring { IfOk result (λ read. reading_run true workers text.now ≡ Ok read.0) }
     ensures turns { IfOk result (λ read. turns_of true read.0 workers text.now ≡ Some read.1) }
-    ensures actors { IfOk result (λ read. All (λ actor. actor < length read.0.posters + workers) read.1) }
+    ensures actors { IfOk result (λ read. All (λ actor. actor < actor_count read.0 workers) read.1) }
     ensures refused { IfErr result (λ why. IsReading (Err why) (reading_run true workers text.now)) }
 {
     let (index, before) = line_of(text, b"turn");
@@ -48,7 +49,7 @@ pub fn answer_schedule<R: AllocGlobal + Threads + Wait + Sync, G: Gate + Sync>(
     text: &[u8],
     workers: u32,
     json: bool,
-) -> Result<Outcome, OutOfMemory>
+) -> Result<Output, OutOfMemory>
     requires workers { workers ≤ most_workers }
     requires length { length text.now ≤ most_wiring_bytes }
     ensures { IfOk result (λ due. AnswersText (Run workers true) json text.now due.status due.text) }

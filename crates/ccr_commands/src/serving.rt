@@ -1,6 +1,6 @@
 //! A service: the wiring that it stands for, or a run of it with what became of each request.
 
-ghost use Rattle.std.specs.Prelude.{◌≡◌, ◌≤◌, ◌+◌, ◌<◌, ◌^◌, ◌++◌, ◌∷◌, [], IfOk, OnOk, codes, decimal, length, map, take, drop};
+ghost use Rattle.std.specs.Prelude.{◌≡◌, ◌≤◌, ◌+◌, ◌++◌, ◌∷◌, [], IfOk, OnOk, codes, decimal, length, take, drop};
 ghost use Rattle.ccr_base.specs.Bounds.{most_wiring_bytes, most_workers};
 ghost use Rattle.ccr_text.specs.Spelling.{line_text, text_of};
 ghost use Rattle.ccr_trace.specs.HistoryText.{behind, history_text};
@@ -11,7 +11,7 @@ ghost use Rattle.ccr_commands.specs.Services.{answer_words, ask_lines, client_li
 ghost use Rattle.ccr_words.specs.declared.requests.Command.TheVariants.{Expand, Service as Serving};
 
 use crate::kept_history::{run_history, written_history};
-use crate::outcomes::{Outcome, refused};
+use crate::outputs::{Output, refused};
 use crate::status::Status;
 use ccr_base::{Gate, List, Name, OutOfMemory};
 use ccr_model::History;
@@ -124,7 +124,7 @@ fn serve<R: AllocGlobal + Threads + Wait + Sync, G: Gate + Sync>(
     gate: &G,
     service: &Service,
     workers: u32,
-) -> Result<Outcome, OutOfMemory>
+) -> Result<Output, OutOfMemory>
     requires { workers ≤ most_workers }
     ensures { IfOk result (λ due. ServiceGives service.now workers due.status due.text) }
 {
@@ -134,20 +134,20 @@ fn serve<R: AllocGlobal + Threads + Wait + Sync, G: Gate + Sync>(
     let wiring = expand(alloc, service)?;
     let (_first, history) = run_history(rt, gate, &wiring, workers, None)?;
     let told = answers(alloc, service, &history)?;
-    Ok(Outcome {
+    Ok(Output {
         status: Status::Done,
         text: served_text(alloc, service, &wiring, &history, told.as_slice())?,
     })
 }
 
 /// The wiring that a service stands for.
-fn expanded(alloc: Global, service: &Service) -> Result<Outcome, OutOfMemory>
+fn expanded(alloc: Global, service: &Service) -> Result<Output, OutOfMemory>
     ensures { IfOk result (λ due. ExpandGives service.now due.status due.text) }
 {
     let wiring = expand(alloc, service)?;
     let mut text = write_wiring(alloc, &wiring)?;
     put_bytes(&mut text, b"done 0\n")?;
-    Ok(Outcome {
+    Ok(Output {
         status: Status::Done,
         text,
     })
@@ -159,7 +159,7 @@ pub fn answer_service<R: AllocGlobal + Threads + Wait + Sync, G: Gate + Sync>(
     gate: &G,
     text: &[u8],
     workers: u32,
-) -> Result<Outcome, OutOfMemory>
+) -> Result<Output, OutOfMemory>
     requires workers { workers ≤ most_workers }
     requires length { length text.now ≤ most_wiring_bytes }
     ensures { (json : _) → IfOk result (λ due. AnswersText (Serving workers) json text.now due.status due.text) }
@@ -171,7 +171,7 @@ pub fn answer_service<R: AllocGlobal + Threads + Wait + Sync, G: Gate + Sync>(
 }
 
 /// What `expand` writes.
-pub fn answer_expand(alloc: Global, text: &[u8]) -> Result<Outcome, OutOfMemory>
+pub fn answer_expand(alloc: Global, text: &[u8]) -> Result<Output, OutOfMemory>
     requires { length text.now ≤ most_wiring_bytes }
     ensures { (json : _) → IfOk result (λ due. AnswersText Expand json text.now due.status due.text) }
 {

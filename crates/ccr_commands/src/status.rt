@@ -23,6 +23,12 @@ pub enum Failure {
     Memory = 5,
 }
 
+/// Why only a prefix of a text may be written. Each is its exit status.
+#[derive(Clone, Copy, PartialEq, Eq)]
+pub enum Unfinished {
+    WriteFault = 4,
+}
+
 impl From<OutOfMemory> for Failure {
     ghost from_gives = { λ _ why. why ≡ Memory };
 

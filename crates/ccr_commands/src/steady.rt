@@ -1,6 +1,6 @@
 //! Whether the counts of a wiring depend on who acts when.
 
-ghost use Rattle.std.specs.Prelude.{◌≡◌, ◌≤◌, ◌++◌, ◌∷◌, [], IfOk, OnOk, codes, length};
+ghost use Rattle.std.specs.Prelude.{◌≡◌, ◌≤◌, ◌++◌, ◌∷◌, IfOk, OnOk, codes, length};
 ghost use Rattle.ccr_base.specs.Bounds.{most_wiring_bytes};
 ghost use Rattle.ccr_text.specs.Spelling.{line_text};
 ghost use Rattle.ccr_report.specs.Report.{total_words};
@@ -8,7 +8,7 @@ ghost use Rattle.ccr_commands.specs.Answers.{AnswersText};
 ghost use Rattle.ccr_commands.specs.Steady.{agreed_text, SteadyGives};
 ghost use Rattle.ccr_words.specs.declared.requests.Command.TheVariants.{Steady};
 
-use crate::outcomes::{Outcome, refused};
+use crate::outputs::{Output, refused};
 use crate::status::Status;
 use ccr_base::{List, OutOfMemory};
 use ccr_model::Totals;
@@ -43,21 +43,21 @@ fn put_agreed(alloc: Global, out: &mut List<u8>, found: &Agreed) -> Result<(), O
     }
 }
 
-fn steady(alloc: Global, wiring: &Wiring) -> Result<Outcome, OutOfMemory>
+fn steady(alloc: Global, wiring: &Wiring) -> Result<Output, OutOfMemory>
     ensures { IfOk result (λ due. SteadyGives wiring.now due.status due.text) }
 {
     let found = agreed(alloc, wiring)?;
     let mut text = List::new(alloc);
     put_agreed(alloc, &mut text, &found)?;
     put_bytes(&mut text, b"done 0\n")?;
-    Ok(Outcome {
+    Ok(Output {
         status: Status::Done,
         text,
     })
 }
 
 /// What `steady` writes.
-pub fn answer_steady(alloc: Global, text: &[u8]) -> Result<Outcome, OutOfMemory>
+pub fn answer_steady(alloc: Global, text: &[u8]) -> Result<Output, OutOfMemory>
     requires { length text.now ≤ most_wiring_bytes }
     ensures { (json : _) → IfOk result (λ due. AnswersText Steady json text.now due.status due.text) }
 {

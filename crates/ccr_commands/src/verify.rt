@@ -1,14 +1,14 @@
 //! An input that is a wiring with an output behind it.
 
-ghost use Rattle.std.specs.Prelude.{◌≡◌, ◌≤◌, ◌<◌, Bool, IfOk, length};
+ghost use Rattle.std.specs.Prelude.{◌≡◌, ◌≤◌, Bool, IfOk, length};
 ghost use Rattle.ccr_base.specs.Bounds.{most_bytes};
-ghost use Rattle.ccr_commands.specs.Findings.{IsFound, VerifyGives, status_of};
-ghost use Rattle.ccr_commands.specs.Answers.{AnswersText, PartsGive, RefusedGives};
+ghost use Rattle.ccr_commands.specs.Findings.{VerifyGives, status_of};
+ghost use Rattle.ccr_commands.specs.Answers.{AnswersText, PartsGive};
 ghost use Rattle.ccr_words.specs.declared.requests.Command.TheVariants.{Verify};
 
 use crate::findings::{Finding, finding_text};
 use crate::judging::finding_of;
-use crate::outcomes::{Outcome, refused};
+use crate::outputs::{Output, refused};
 use crate::status::Status;
 use ccr_base::OutOfMemory;
 use ccr_replay::read_part;
@@ -34,13 +34,13 @@ fn judge_output(
     wiring: &Wiring,
     before: u32,
     output: &[u8],
-) -> Result<Outcome, OutOfMemory>
+) -> Result<Output, OutOfMemory>
     requires before { before ≤ most_bytes }
     requires length { length output.now ≤ most_bytes }
     ensures { IfOk result (λ due. VerifyGives wiring.now before output.now due.status due.text) }
 {
     let finding = finding_of(alloc, wiring, before, output)?;
-    Ok(Outcome {
+    Ok(Output {
         status: status_of(finding),
         text: finding_text(alloc, finding)?,
     })
@@ -52,7 +52,7 @@ fn judge_parts(
     part: &[u8],
     before: u32,
     output: &[u8],
-) -> Result<Outcome, OutOfMemory>
+) -> Result<Output, OutOfMemory>
     requires before { before ≤ most_bytes }
     requires length { length output.now ≤ most_bytes }
     ensures { IfOk result (λ due. PartsGive part.now before output.now due.status due.text) }
@@ -64,8 +64,8 @@ fn judge_parts(
 }
 
 /// What `verify` writes. The wiring is what stands before the first line whose first word is `history`.
-#[tactic(auto, using(crate::proofs::Due::parts_are_due))]
-pub fn verify(alloc: Global, text: &[u8]) -> Result<Outcome, OutOfMemory>
+#[tactic(auto, using(crate::proofs::GivenIsDue::parts_are_due))]
+pub fn verify(alloc: Global, text: &[u8]) -> Result<Output, OutOfMemory>
     requires { length text.now ≤ most_bytes }
     ensures { (json : Bool) → IfOk result (λ due. AnswersText Verify json text.now due.status due.text) }
 {

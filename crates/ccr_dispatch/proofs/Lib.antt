@@ -1,3 +1,3 @@
-pub mod Falls
-pub mod Lowered
-pub mod Stepped
+pub mod WorkLeftFalls
+pub mod StepsLeaveLess
+pub mod StepsOverNets

@@ -2,7 +2,7 @@
 
 ghost use Rattle.std.specs.Prelude.{◌≡◌, ◌<◌, []};
 ghost use Rattle.ccr_wiring.specs.Valid.{IsValid};
-ghost use Rattle.ccr_actor.specs.Hands.{AreSettling};
+ghost use Rattle.ccr_claim.specs.Asks.{AreSettling};
 ghost use Rattle.ccr_dispatch.specs.ToRest.{IsSettled};
 ghost use Rattle.ccr_dispatch.specs.Lawful.{Behind, HasBounds, OfAnswers};
 ghost use Rattle.ccr_dispatch.specs.Ranks.{steps_left};

@@ -7,7 +7,8 @@ use Rattle.std.proofs.lemmas.Bool.Decides.{nat_tests}
 use Rattle.ccr_model.specs.declared.history.Event.{Event}
 use Rattle.ccr_base.proofs.Booleans.{neither}
 use Rattle.ccr_base.proofs.Options.{no_head}
-use Rattle.ccr_engine.specs.Ready.{has_number, IsLeast}
+use Rattle.ccr_base.specs.Lists.{has_number}
+use Rattle.ccr_engine.specs.Ready.{IsLeast}
 use Rattle.ccr_engine.specs.Numbered.{Gains, IsNoneBut}
 
 -- the event of the first number that has one: as many numbers as there are items, of which the first has this one

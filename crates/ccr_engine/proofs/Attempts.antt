@@ -23,7 +23,7 @@ use Rattle.ccr_model.specs.Live.{is_live, has_room}
 use Rattle.ccr_model.specs.Choice.{engine_choice, names_of}
 use Rattle.ccr_model.specs.Rules.{cuts_at, may_admit, may_put, drop_at, has_budget}
 use Rattle.ccr_model.specs.Order.{first, post_from, script_post, next_attempt, fire_at, fire_from, admit_first, admit_from, put_first, run_task, run_with, task_post, start_from}
-use Rattle.ccr_model.proofs.Pushes.{firings-push, fired-fire}
+use Rattle.ccr_model.proofs.OneMoreEvent.{firings-push, fired-fire}
 use Rattle.ccr_base.proofs.Options.{IfSome-or}
 
 abbrev OneMore : ℕ → List Event → Event → Type 0

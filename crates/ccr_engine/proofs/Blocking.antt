@@ -9,10 +9,11 @@ use Rattle.ccr_base.specs.declared.names.Spot.TheVariants.{Branch, Site}
 use Rattle.ccr_wiring.specs.declared.parts.Parts.{Parts}
 use Rattle.ccr_wiring.specs.Wirings.{Placement, placement, policy_of, spots}
 use Rattle.ccr_base.proofs.Booleans.{either, or_left, or_right, no_both, eq-self, same_number}
+use Rattle.ccr_base.specs.Lists.{has_number}
 use Rattle.ccr_ledger.specs.Rows.{row, with_row, empty_rows}
 use Rattle.ccr_ledger.specs.Books.{Books}
 use Rattle.ccr_ledger.specs.Asked.{room, queue_has_room}
-use Rattle.ccr_engine.specs.Ready.{has_number, IsLeastFirst}
+use Rattle.ccr_engine.specs.Ready.{IsLeastFirst}
 use Rattle.ccr_engine.specs.Numbered.{passes_at}
 use Rattle.ccr_engine.specs.Blocked.{queue_at, is_on, is_blocked, AreBlocked, Blocks}
 

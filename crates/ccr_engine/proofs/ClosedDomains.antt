@@ -25,7 +25,7 @@ use Rattle.ccr_model.specs.TaskData.{placement_of}
 use Rattle.ccr_model.specs.Tasks.{is_interleave, is_teardown, is_concurrent, is_branch_where, fired_by, waiting, is_over, is_of_domain, admitted}
 use Rattle.ccr_model.specs.Legal.{IsAllowed, IsLegal}
 use Rattle.ccr_model.proofs.Allowing.{OneName-legal}
-use Rattle.ccr_model.proofs.Alone.{ever_admitted_fired}
+use Rattle.ccr_model.proofs.ExclusiveRootsAreAlone.{ever_admitted_fired}
 use Rattle.ccr_base.proofs.Booleans.{both, neither, refuted, no_both, or_left, or_right, and_false, same_number, eq-self, eq_turned}
 use Rattle.ccr_model.proofs.Cutting.{fired_by-append}
 use Rattle.ccr_model.proofs.Ending.{RunningFacts-allowed}
@@ -33,7 +33,7 @@ use Rattle.ccr_model.proofs.FiredTasks.{IsFired, placement_fired, placement_stay
 use Rattle.ccr_model.proofs.AllowedFirings.{FiresSo-allowed, WaitingFacts-waiting, BranchFacts-where}
 use Rattle.ccr_base.proofs.Options.{some_of}
 use Rattle.ccr_model.proofs.PostNames.{refused_not}
-use Rattle.ccr_model.proofs.Pushes.{ever_admitted-push, cut-push}
+use Rattle.ccr_model.proofs.OneMoreEvent.{ever_admitted-push, cut-push}
 use Rattle.ccr_model.proofs.Roots.{placement_of_root}
 use Rattle.ccr_model.proofs.SameNames.{same_task-is, same_task-self}
 use Rattle.ccr_model.proofs.TasksLeft.{has_task-append, filter_on, of_filter}

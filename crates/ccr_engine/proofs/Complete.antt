@@ -12,7 +12,7 @@ use Rattle.ccr_model.specs.Tasks.{running, count_unfinished}
 use Rattle.ccr_model.specs.Legal.{IsAllowed, IsLegal, IsQuiet, has_shed, are_whole_from, is_complete}
 use Rattle.ccr_model.specs.Order.{first, post_from, script_post, fire_from, admit_from, put_first, run_task}
 use Rattle.ccr_model.proofs.Allowing.{first_allowed}
-use Rattle.ccr_model.proofs.Covered.{IsCovered-legal}
+use Rattle.ccr_model.proofs.LegalIsCovered.{IsCovered-legal}
 use Rattle.ccr_base.proofs.Options.{none_or, none_map, no_head, none-above}
 use Rattle.ccr_laws.proofs.Lines.{ArePosted-legal}
 

@@ -6,6 +6,7 @@ use Rattle.std.proofs.lemmas.Bool.Decides.{nat_tests}
 use Rattle.std.proofs.lemmas.List.{length-map}
 use Rattle.ccr_base.specs.declared.names.TaskId.{TaskId}
 use Rattle.ccr_base.specs.Names.{same_task}
+use Rattle.ccr_base.specs.Lists.{has_number}
 use Rattle.ccr_wiring.specs.declared.parts.Parts.{Parts}
 use Rattle.ccr_model.specs.declared.history.Event.{Event}
 use Rattle.ccr_model.specs.declared.history.Event.TheVariants.{Post, Fire, Admit, Put, Start, End}
@@ -14,7 +15,7 @@ use Rattle.ccr_model.specs.Sites.{before}
 use Rattle.ccr_model.specs.Legal.{IsAllowed, IsLegal}
 use Rattle.ccr_model.specs.Order.{next_attempt}
 use Rattle.ccr_model.specs.Rules.{needs_no_admission}
-use Rattle.ccr_model.proofs.Pushes.{fired-fire}
+use Rattle.ccr_model.proofs.OneMoreEvent.{fired-fire}
 use Rattle.ccr_model.proofs.SameNames.{same_task-is}
 use Rattle.ccr_model.proofs.FiredTasks.{placement_fired}
 use Rattle.ccr_model.proofs.TaskPlaces.{PutFacts-allowed}
@@ -24,11 +25,11 @@ use Rattle.ccr_ledger.specs.declared.cards.Card.{Card}
 use Rattle.ccr_ledger.specs.Books.{Books}
 use Rattle.ccr_ledger.specs.Events.{after_event}
 use Rattle.ccr_ledger.specs.Kept.{Keeps}
-use Rattle.ccr_engine.specs.Ready.{has_number, AreReady}
+use Rattle.ccr_engine.specs.Ready.{AreReady}
 use Rattle.ccr_engine.specs.Desk.{Desk, Stands, TablesTell, Follows, after_attempt, after_ready, is_number_of}
 use Rattle.ccr_engine.proofs.Posters.{done-event}
 use Rattle.ccr_engine.proofs.ReadyNumbers.{ready-fire, ready-admit, ready-put, ready-other}
-use Rattle.ccr_engine.proofs.Told.{touched_kept, domains_kept, queues_kept}
+use Rattle.ccr_engine.proofs.PartsAreTold.{touched_kept, domains_kept, queues_kept}
 
 -- a task stands at the index of its firing among those that fired
 pub fired_at_number : (h : List Event) (t : TaskId) (f : Firing) → firing_named h t ≡ Some f → slice_get (fired h) (length (firings (before t h))) ≡ Some t

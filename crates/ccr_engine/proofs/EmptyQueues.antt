@@ -15,7 +15,7 @@ use Rattle.ccr_model.specs.Legal.{IsAllowed, IsLegal}
 use Rattle.ccr_base.proofs.Booleans.{neither, no_both}
 use Rattle.ccr_model.proofs.FiredTasks.{IsFired, placement_stays}
 use Rattle.ccr_base.proofs.Options.{no_head, none_map}
-use Rattle.ccr_model.proofs.Pushes.{put-push, started-push, dropped-push}
+use Rattle.ccr_model.proofs.OneMoreEvent.{put-push, started-push, dropped-push}
 use Rattle.ccr_model.proofs.TasksLeft.{out_left}
 use Rattle.ccr_model.proofs.TaskLists.{to_filter, to_without, has_oldest, of_more, not_more, of_one}
 use Rattle.ccr_model.proofs.TaskPlaces.{ArePlaced-legal, QueuedFacts, QueuedFacts-queued, PutFacts-allowed}

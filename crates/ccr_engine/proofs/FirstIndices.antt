@@ -1,8 +1,8 @@
 -- The indices where a test passes, and the first of them.
-use Rattle.std.proofs.Common.{◌≡◌, ◌∙◌, ℕ, zero, suc, ◌+◌, ◌<◌, Bool, true, false, ◌&&◌, ◌||◌, List, [], ◌∷◌, ◌++◌, length, take, Option, None, Some, refl, ap, arith}
+use Rattle.std.proofs.Common.{◌≡◌, ◌∙◌, ℕ, zero, suc, ◌+◌, ◌<◌, Bool, true, false, List, [], ◌∷◌, ◌++◌, length, Option, None, Some, refl, ap, arith}
 use Rattle.std.specs.Prelude.{◌==◌, if◌then◌else◌, option_map}
 use Rattle.std.specs.Option.{option_map_or}
-use Rattle.std.specs.List.{slice_get, list_any}
+use Rattle.std.specs.List.{list_any}
 use Rattle.std.proofs.lemmas.Bool.Decides.{nat_tests}
 use Rattle.ccr_base.proofs.Booleans.{neither}
 use Rattle.ccr_engine.specs.Numbered.{passes_at}
@@ -47,7 +47,7 @@ first_behind test (x ∷ xs) ys none =
 abbrev pub IsOnce : {T : Type 0} → (T → Bool) → List T → Type 0
 IsOnce test xs = (n : ℕ) → passes_at test xs n ≡ option_map_or (λ k. n == k) (first_index test xs) false
 
-pub never_at : {T : Type 0} (test : T → Bool) (xs : List T) → list_any test xs ≡ false → (n : ℕ) → passes_at test xs n ≡ false
+never_at : {T : Type 0} (test : T → Bool) (xs : List T) → list_any test xs ≡ false → (n : ℕ) → passes_at test xs n ≡ false
 never_at test [] none n = refl
 never_at test (x ∷ xs) none zero = (neither (test x) (list_any test xs) none).0
 never_at test (x ∷ xs) none (suc n) = never_at test xs (neither (test x) (list_any test xs) none).1 n
@@ -76,25 +76,3 @@ once_behind test [] ys none once = once
 once_behind test (x ∷ xs) ys none once =
     let outs = neither (test x) (list_any test xs) none in
     once_later test x (xs ++ ys) outs.0 (once_behind test xs ys outs.1 once)
-
--- one more item
-pub passes-more : {T : Type 0} (test : T → Bool) (xs : List T) (i : ℕ) (x : T) (n : ℕ) → slice_get xs i ≡ Some x → passes_at test (take (i + 1) xs) n ≡ passes_at test (take i xs) n || ((n == i) && test x)
-passes-more test [] i x n at = absurd (cc)
-passes-more test (y ∷ xs) zero x zero at = let one : y ≡ x = cc in rw one refl
-passes-more test (y ∷ xs) zero x (suc n) at = let later : (suc n == 0) ≡ false = grind (arith, nat_tests) in rw later (none xs)
-  where
-    none : (zs : List _) → passes_at test (take 0 zs) n ≡ false
-    none [] = refl
-    none (z ∷ zs) = refl
-passes-more test (y ∷ xs) (suc i) x zero at =
-    let more : suc i + 1 ≡ suc (i + 1) = omega arith in
-    let first : (0 == suc i) ≡ false = grind (arith, nat_tests) in
-    rw (more, first) (or_nothing (test y))
-  where
-    or_nothing : (b : Bool) → b ≡ b || false
-    or_nothing true = refl
-    or_nothing false = refl
-passes-more test (y ∷ xs) (suc i) x (suc n) at =
-    let more : suc i + 1 ≡ suc (i + 1) = omega arith in
-    let same : (suc n == suc i) ≡ (n == i) = grind (arith, nat_tests) in
-    rw (more, same) (passes-more test xs i x n at)

@@ -18,7 +18,7 @@ use Rattle.ccr_engine.specs.Desk.{Desk, Stands, TablesTell, IsIdle, IsAhead, fir
 use Rattle.ccr_engine.proofs.Choosing.{could_choose}
 use Rattle.ccr_engine.proofs.Gaining.{passes-same}
 use Rattle.ccr_engine.proofs.Asking.{none_but-same}
-use Rattle.ccr_engine.proofs.Told.{post_told, first_fire_told, admission_told, first_admit_told, put_told, none_put_told, first_run_told, start_at_told, start_told}
+use Rattle.ccr_engine.proofs.PartsAreTold.{post_told, first_fire_told, admission_told, first_admit_told, put_told, none_put_told, first_run_told, start_at_told, start_told}
 
 length-take : {X : Type 0} (n : ℕ) (xs : List X) → length (take n xs) ≤ length xs
 length-take zero [] = omega arith

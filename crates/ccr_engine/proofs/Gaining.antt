@@ -1,18 +1,11 @@
 -- What sets of numbers gain.
-use Rattle.std.proofs.Common.{◌≡◌, ◌∙◌, ℕ, zero, suc, ◌+◌, ◌<◌, Bool, true, false, ◌||◌, List, [], ◌∷◌, ◌++◌, length, take, Option, None, Some, Result, Ok, Err, refl, ap, arith}
-use Rattle.std.specs.Prelude.{◌==◌, OnOk}
+use Rattle.std.proofs.Common.{◌≡◌, ◌∙◌, ℕ, zero, suc, ◌<◌, Bool, true, false, ◌||◌, List, [], ◌∷◌, length, take, Option, None, Some, refl, ap, arith, sym}
 use Rattle.std.specs.List.{slice_get, list_any}
 use Rattle.std.specs.Option.{option_map_or}
 use Rattle.std.proofs.Math.ListN.{get_or}
 use Rattle.std.proofs.lemmas.Option.{slice_get-get_or}
-use Rattle.std.proofs.lemmas.Bool.Decides.{nat_tests}
-use Rattle.ccr_engine.specs.Ready.{has_number}
+use Rattle.ccr_base.specs.Lists.{has_number}
 use Rattle.ccr_engine.specs.Numbered.{Gains, passes_at}
-
--- what holds on success gives what follows from it
-pub on_ok : {T E P Q : Type 0} (r : Result T E) → (P → Q) → OnOk r P → OnOk r Q
-on_ok (Ok x) f given = f given
-on_ok (Err e) f given = tt
 
 -- one test in the place of another
 pub gains-same : (p q : ℕ → Bool) (old new : List ℕ) → ((n : ℕ) → p n ≡ q n) → Gains p old new → Gains q old new
@@ -21,18 +14,17 @@ gains-same p q old new same gains = record { members = λ n. gains.members n ∙
 pub gains-none : (p : ℕ → Bool) (old : List ℕ) → ((n : ℕ) → p n ≡ false) → Gains p old old
 gains-none p old never = record { members = λ n. rw (never n) refl; least = λ least. least }
 
--- the numbers of a list, one by one
-pub has-more : (xs : List ℕ) (x n : ℕ) → has_number (xs ++ x ∷ []) n ≡ has_number xs n || (n == x)
-has-more [] x n = of_test (x == n) (n == x) (grind (arith, nat_tests))
+-- one test after the other
+pub gains-both : (p q r : ℕ → Bool) (old mid new : List ℕ) → ((n : ℕ) → r n ≡ p n || q n) → Gains p old mid → Gains q mid new → Gains r old new
+gains-both p q r old mid new both first second = record {
+  members = λ n. second.members n ∙ (ap (λ b. q n || b) (first.members n) ∙ (turned (p n) (q n) (has_number old n) ∙ ap (λ b. b || has_number old n) (sym (both n))));
+  least = λ least. second.least (first.least least);
+}
   where
-    of_test : (a b : Bool) → a ≡ b → a || false ≡ false || b
-    of_test true b same = same
-    of_test false b same = same
-has-more (y ∷ xs) x n = of_test (y == n) (has-more xs x n)
-  where
-    of_test : (a : Bool) → has_number (xs ++ x ∷ []) n ≡ has_number xs n || (n == x) → a || has_number (xs ++ x ∷ []) n ≡ (a || has_number xs n) || (n == x)
-    of_test true rest = refl
-    of_test false rest = rest
+    turned : (a b c : Bool) → b || (a || c) ≡ (a || b) || c
+    turned true true c = refl
+    turned true false c = refl
+    turned false b c = refl
 
 -- the item at an index is read
 pub read : {T : Type 0} (ss xs : List T) (i : ℕ) (d : T) → ss ≡ xs → i < length ss → slice_get xs i ≡ Some (get_or ss i d)

@@ -3,7 +3,7 @@ pub mod Attempts
 pub mod Runs
 pub mod Finished
 pub mod Lives
-pub mod Takes
+pub mod LessIsThereToTake
 pub mod Touching
 pub mod Choosing
 pub mod Gaining
@@ -15,7 +15,7 @@ pub mod Posters
 pub mod MayPut
 pub mod NumberSets
 pub mod ReadyNumbers
-pub mod Told
+pub mod PartsAreTold
 pub mod DeskSteps
 pub mod Telling
 pub mod Firsts
@@ -23,9 +23,10 @@ pub mod Asking
 pub mod PartSteps
 pub mod Blocking
 pub mod Searching
-pub mod Along
+pub mod DesksAlongHistories
 pub mod Reading
 pub mod FirstIndices
-pub mod NotedIndices
+pub mod BranchIndices
 pub mod SpotIndices
+pub mod TakingSpots
 pub mod TouchedSpots

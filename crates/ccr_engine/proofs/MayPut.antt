@@ -11,16 +11,15 @@ use Rattle.ccr_model.specs.declared.history.Event.{Event}
 use Rattle.ccr_model.specs.declared.history.Event.TheVariants.{Post, Fire, Admit, Put, Start, End}
 use Rattle.ccr_model.specs.Firings.{firing_of, fired, cut, put, put_by, ever_admitted, admitted_by, spot_of}
 use Rattle.ccr_model.specs.Rules.{may_put, cuts_at, needs_no_admission}
-use Rattle.ccr_model.specs.Tasks.{waiting}
 use Rattle.ccr_model.specs.Legal.{IsAllowed, IsLegal}
-use Rattle.ccr_model.proofs.Pushes.{put-push, cut-push, ever_admitted-push, fired-fire}
+use Rattle.ccr_model.proofs.OneMoreEvent.{put-push, cut-push, ever_admitted-push, fired-fire}
 use Rattle.ccr_model.proofs.TasksLeft.{has_task-append}
 use Rattle.ccr_model.proofs.TaskSteps.{firing_named-fire}
 use Rattle.ccr_base.proofs.Booleans.{refuted, no_both, and_false}
 use Rattle.ccr_model.proofs.SameNames.{same_task-is, same_task-self}
 use Rattle.ccr_model.proofs.FiredTasks.{fired_has}
 use Rattle.ccr_model.proofs.LegalParts.{along_legal}
-use Rattle.ccr_model.proofs.Alone.{ever_admitted_fired}
+use Rattle.ccr_model.proofs.ExclusiveRootsAreAlone.{ever_admitted_fired}
 use Rattle.ccr_model.proofs.TaskLists.{of_more, among_left}
 use Rattle.ccr_model.proofs.Allowing.{OneName-legal}
 use Rattle.ccr_model.proofs.TaskPlaces.{ArePlaced-legal}

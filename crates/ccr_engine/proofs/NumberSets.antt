@@ -10,7 +10,8 @@ use Rattle.std.specs.BTreeMap.{is_at}
 use Rattle.std.specs.BTreeSet as sorted
 use Rattle.std.proofs.lemmas.Bool.Decides.{nat_tests}
 use Rattle.ccr_base.proofs.Booleans.{or_left, eq-self, above_differs}
-use Rattle.ccr_engine.specs.Ready.{has_number, IsLeast, IsLeastFirst}
+use Rattle.ccr_base.specs.Lists.{has_number}
+use Rattle.ccr_engine.specs.Ready.{IsLeast, IsLeastFirst}
 
 same_number : (q m : ℕ) → is_at (nat_cmp q) m ≡ (m == q)
 same_number q m = grind (arith, nat_tests)

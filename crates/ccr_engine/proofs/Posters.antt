@@ -9,7 +9,7 @@ use Rattle.ccr_wiring.specs.declared.parts.PosterPart.{PosterPart}
 use Rattle.ccr_model.specs.declared.history.Event.{Event}
 use Rattle.ccr_model.specs.Posts.{posts, post_of, is_script_of, posts_of_poster}
 use Rattle.ccr_model.specs.Order.{post_from}
-use Rattle.ccr_model.proofs.Pushes.{posts-push}
+use Rattle.ccr_model.proofs.OneMoreEvent.{posts-push}
 use Rattle.ccr_base.proofs.Booleans.{both}
 use Rattle.ccr_engine.specs.Cursor.{are_done}
 

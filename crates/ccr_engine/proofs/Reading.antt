@@ -1,6 +1,5 @@
 -- What an engine keeps: its desk, which is that of what happened as long as there was memory.
-use Rattle.std.proofs.Common.{◌≡◌, ℕ, ◌≤◌, Bool, true, List, [], ◌∷◌, ◌++◌, length, Option, Some, refl, ap, ◌∙◌, subst}
-use Rattle.std.specs.Prelude.{◌^◌}
+use Rattle.std.proofs.Common.{◌≡◌, ℕ, ◌≤◌, Bool, true, List, [], ◌∷◌, ◌++◌, length, Option, Some, refl, subst}
 use Rattle.ccr_wiring.specs.declared.parts.Parts.{Parts}
 use Rattle.ccr_wiring.specs.Valid.{IsValid}
 use Rattle.ccr_model.specs.declared.history.Event.{Event}
@@ -8,8 +7,8 @@ use Rattle.ccr_ledger.specs.Books.{Books}
 use Rattle.ccr_ledger.specs.Kept.{Keeps}
 use Rattle.ccr_engine.specs.Desk.{Desk, IsRead, IsAhead, IsIdle, Follows, Stands, empty_desk, first_in}
 use Rattle.ccr_engine.specs.Coming.{ComesNext}
-use Rattle.ccr_engine.specs.Engine.{Engine, IsSound, next_event, next_engine}
-use Rattle.ccr_engine.proofs.Along.{ahead_by, first_by, idle_by, stands_next, stands_none}
+use Rattle.ccr_engine.specs.Engine.{Engine, IsSound, next_event}
+use Rattle.ccr_engine.proofs.DesksAlongHistories.{ahead_by, first_by, idle_by, stands_next, stands_none}
 use Rattle.ccr_engine.proofs.Runs.{IsAllowed-next, IsSound-event, IsSound-start, IsSound-pushed}
 
 pub IsRead-start : (w v : Parts) (c : ℕ) (h : List Event) (d : Desk) → IsValid w → length w.posters ≤ c → c ≤ 32 → v ≡ w → h ≡ [] → d ≡ empty_desk w → IsRead (record { wiring = v; closer = c; history = h }) d true

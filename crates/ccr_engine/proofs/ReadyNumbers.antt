@@ -16,13 +16,14 @@ use Rattle.ccr_model.specs.Firings.{firing_of, fired, put_by, admitted_by}
 use Rattle.ccr_model.specs.Rules.{may_put, needs_no_admission}
 use Rattle.ccr_model.specs.Legal.{IsAllowed, IsLegal}
 use Rattle.ccr_model.specs.Consequences.{are_distinct_tasks}
-use Rattle.ccr_model.proofs.Pushes.{fired-fire}
+use Rattle.ccr_model.proofs.OneMoreEvent.{fired-fire}
 use Rattle.ccr_model.proofs.SameNames.{same_task-is, same_task-self}
 use Rattle.ccr_base.proofs.Booleans.{both, not_true, refuted, no_both, or_left, or_right}
 use Rattle.ccr_base.proofs.Options.{some-below, none-above}
+use Rattle.ccr_base.specs.Lists.{has_number}
 use Rattle.ccr_model.proofs.AllowedFirings.{firings-other}
 use Rattle.ccr_model.proofs.TasksOnce.{fired_once}
-use Rattle.ccr_engine.specs.Ready.{has_number, AreReady, IsLeast}
+use Rattle.ccr_engine.specs.Ready.{AreReady, IsLeast}
 use Rattle.ccr_engine.proofs.MayPut.{may_put-fire, may_put-new, may_put-admit, may_put-put, may_put-other}
 
 -- who stands at an index is among them

@@ -8,7 +8,7 @@ use Rattle.ccr_model.specs.Firings.{fired}
 use Rattle.ccr_model.specs.Legal.{IsAllowed, IsLegal, IsQuiet, is_complete}
 use Rattle.ccr_model.specs.Order.{first, next_attempt, with_first, IsOrderedAfter, IsFinished}
 use Rattle.ccr_model.proofs.Allowing.{first_allowed}
-use Rattle.ccr_model.proofs.Quiet.{IsQuiet-first}
+use Rattle.ccr_model.proofs.QuietAllowsNone.{IsQuiet-first}
 use Rattle.ccr_model.proofs.LegalParts.{legal_push}
 use Rattle.ccr_laws.specs.Potential.{TakesSome, potential}
 use Rattle.ccr_engine.specs.Engine.{Engine, next_event, next_engine, IsSound}

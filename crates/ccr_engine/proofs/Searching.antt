@@ -1,6 +1,6 @@
 -- The search for the first spot that can fire, among the touched ones and the blocked ones that have room.
 use Rattle.std.proofs.Common.{◌≡◌, ◌∙◌, ℕ, ◌+◌, ◌<◌, ◌≤◌, Bool, true, false, ◌&&◌, List, ◌∷◌, length, Option, Some, None, Result, Ok, Err, refl, ap, sym, subst, arith}
-use Rattle.std.specs.Prelude.{◌==◌, nat_lt, is_some, option_and_then, IfSome, IfNone, IfOk}
+use Rattle.std.specs.Prelude.{nat_lt, is_some, option_and_then, IfSome, IfNone, IfOk}
 use Rattle.std.specs.List.{slice_get}
 use Rattle.std.specs.Option.{option_map_or}
 use Rattle.std.proofs.lemmas.Bool.Decides.{nat_tests}
@@ -13,11 +13,12 @@ use Rattle.ccr_model.specs.declared.history.Event.{Event}
 use Rattle.ccr_base.proofs.Booleans.{both, refuted, no_both, same_number}
 use Rattle.ccr_model.proofs.CanFire.{is_some-if, is_some-map}
 use Rattle.ccr_base.proofs.Options.{no_head, some_then}
+use Rattle.ccr_base.specs.Lists.{has_number}
 use Rattle.ccr_ledger.specs.Rows.{row, with_row}
 use Rattle.ccr_ledger.specs.Books.{Books}
 use Rattle.ccr_ledger.specs.Asked.{lives, room, choice_at}
 use Rattle.ccr_engine.specs.declared.search.Found.{Found}
-use Rattle.ccr_engine.specs.Ready.{has_number, IsLeast, IsLeastFirst}
+use Rattle.ccr_engine.specs.Ready.{IsLeast, IsLeastFirst}
 use Rattle.ccr_engine.specs.Numbered.{passes_at}
 use Rattle.ccr_engine.specs.Blocked.{is_blocked, AreBlocked, is_before, IsFullBefore}
 use Rattle.ccr_engine.specs.Parts.{choose_in, fire_in, first_fire_in, fires_in, could_fire_in, IsStillIn}

@@ -1,5 +1,5 @@
--- Where a wiring's spots stand: numbers past its own have none, and a branch's sites stand behind it.
-use Rattle.std.proofs.Common.{◌≡◌, ◌∙◌, ℕ, zero, suc, ◌+◌, ◌<◌, ◌≤◌, Bool, true, false, List, [], ◌∷◌, ◌++◌, length, Option, None, Some, Vec, Global, refl, ap, sym, subst, arith}
+-- Where a wiring's spots stand: each at one index alone, and the sites of a branch behind it.
+use Rattle.std.proofs.Common.{◌≡◌, ◌∙◌, ℕ, zero, suc, ◌+◌, ◌<◌, ◌≤◌, Bool, true, false, List, [], ◌∷◌, ◌++◌, length, Option, None, Some, refl, ap, sym, subst, arith}
 use Rattle.std.specs.Prelude.{◌==◌, ◌^◌, option_map, option_and_then}
 use Rattle.std.specs.List.{slice_get, list_any}
 use Rattle.std.specs.Option.{option_map_or}
@@ -10,49 +10,15 @@ use Rattle.ccr_base.specs.declared.handlers.Action.{Action}
 use Rattle.ccr_base.specs.declared.handlers.Action.TheVariants.{Post, Fail, Add, Remove, Await}
 use Rattle.ccr_base.specs.declared.names.Spot.{Spot}
 use Rattle.ccr_base.specs.declared.names.Spot.TheVariants.{Branch, Site}
-use Rattle.ccr_base.specs.declared.patterns.Slot.{Slot}
-use Rattle.ccr_base.specs.declared.patterns.Pattern.{Pattern}
-use Rattle.ccr_base.specs.declared.patterns.Pattern.TheVariants.{Slots, Gather}
 use Rattle.ccr_base.specs.Names.{same_spot}
 use Rattle.ccr_wiring.specs.declared.parts.Parts.{Parts}
 use Rattle.ccr_wiring.specs.Wirings.{Placement, placement, placements, site_port, branch_of, awaited, actions_of, sites_from, spots, spots_from}
-use Rattle.ccr_wiring.specs.Repeats.{slot_ports}
-use Rattle.ccr_wiring.specs.Spots.{pattern_ports}
 use Rattle.ccr_wiring.specs.Valid.{IsValid}
 use Rattle.ccr_wiring.proofs.Soundness.{sound}
-use Rattle.ccr_wiring.proofs.Lists.{any_none}
-use Rattle.ccr_base.proofs.Booleans.{and_false, eq-self, above_differs}
-use Rattle.ccr_engine.specs.Touched.{names_any}
-use Rattle.ccr_engine.specs.Numbered.{AreIndices}
-use Rattle.ccr_engine.specs.Indices.{first_index, takes_from, list_at, branch_indices, AreKeyed}
+use Rattle.ccr_base.proofs.Booleans.{and_false, eq-self}
+use Rattle.ccr_engine.specs.Indices.{first_index, branch_indices}
 use Rattle.ccr_engine.proofs.FirstIndices.{IsOnce, first_never, first_behind, first_within, once_never, once_later, once_here, once_behind}
-use Rattle.ccr_engine.proofs.NotedIndices.{listed_all, indices_append}
-
--- a pattern names no port past the wiring's
-slots_low : (n : ℕ) (slots : List Slot) → ((index port : ℕ) → slice_get (slot_ports slots) index ≡ Some port → port < n) → list_any (λ (s : Slot). n == s.port) slots ≡ false
-slots_low n [] low = refl
-slots_low n (s ∷ slots) low =
-    let here = above_differs n s.port (low 0 s.port refl) in
-    rw here (slots_low n slots (λ index port at. low (suc index) port at))
-
-pattern_low : (n : ℕ) (p : Pattern) → ((index port : ℕ) → slice_get (pattern_ports p) index ≡ Some port → port < n) → names_any (λ port. n == port) p ≡ false
-pattern_low n (Slots slots) low = slots_low n slots low
-pattern_low n (Gather total a b) low =
-    let one = above_differs n a (low 0 a refl) in
-    let two = above_differs n b (low 1 b refl) in
-    rw (one, two) refl
-
-no_port : (w : Parts) → IsValid w → (n : ℕ) → length w.ports ≤ n → (s : Spot) → takes_from w n s ≡ false
-no_port w valid n past (Branch b) = of_placement (placement w b) refl
-  where
-    of_placement : (o : Option Placement) → placement w b ≡ o → option_map_or (λ (s : Placement). names_any (λ port. n == port) s.branch.pattern) o false ≡ false
-    of_placement None at = refl
-    of_placement (Some s) at = pattern_low n s.branch.pattern (λ index port there. omega (arith, past, (sound w valid).pattern_ports b s index port at there))
-no_port w valid n past (Site b k) = of_port (site_port w b k) refl
-  where
-    of_port : (o : Option ℕ) → site_port w b k ≡ o → option_map_or (λ port. n == port) o false ≡ false
-    of_port None at = refl
-    of_port (Some port) at = above_differs n port (omega (arith, past, (sound w valid).site_ports b k port at))
+use Rattle.ccr_engine.proofs.BranchIndices.{indices_append}
 
 -- among the sites of a branch none passes that passes at no site of it
 sites_never : (test : Spot → Bool) (b j : ℕ) (ports : List ℕ) → ((k : ℕ) → test (Site b k) ≡ false) → list_any test (sites_from b j ports) ≡ false
@@ -145,10 +111,6 @@ no_site w valid n k far = site_index w n k ∙ rw (of_placement (placement w n))
     of_placement None = refl
     of_placement (Some s) = slice_get_past (awaited (actions_of w s.branch.handler)) k (omega (arith, far, few_awaited (actions_of w s.branch.handler), (sound w valid).few_actions s.branch.handler))
 
--- what the lists say of a port
-pub at_port : (w : Parts) (ports : List (Vec ℕ Global)) (branches : List ℕ) (port : ℕ) → AreKeyed w (spots w) ports branches → AreIndices (takes_from w port) (spots w) (list_at ports port)
-at_port w ports branches port keyed = listed_all (takes_from w) (length w.ports) (spots w) ports port keyed.by_port (λ past. any_none (takes_from w port) (spots w) (no_port w keyed.valid port past))
-
 -- a branch's index, by its number
 sites_placed : (b j p : ℕ) (ports : List ℕ) → branch_indices p (sites_from b j ports) ≡ []
 sites_placed b j p [] = refl
@@ -217,9 +179,9 @@ own_once n k j (port ∷ ports) rest none = of_test (k == j) refl (own_once n k 
         let out : same_spot (Site n k) (Site n j) ≡ false = rw (differs, and_false (n == n)) refl in
         once_later (same_spot (Site n k)) (Site n j) (sites_from n (j + 1) ports ++ rest) out more
 
-once_from : (w : Parts) (n k m : ℕ) (ss : List Placement) → IsOnce (same_spot (Site n k)) (spots_from w m ss)
-once_from w n k m [] = once_never (same_spot (Site n k)) [] refl
-once_from w n k m (s ∷ ss) = once_later (same_spot (Site n k)) (Branch m) (sites_from m 0 (awaited (actions_of w s.branch.handler)) ++ spots_from w (m + 1) ss) refl (of_test (n == m) refl (once_from w n k (m + 1) ss))
+site_once_from : (w : Parts) (n k m : ℕ) (ss : List Placement) → IsOnce (same_spot (Site n k)) (spots_from w m ss)
+site_once_from w n k m [] = once_never (same_spot (Site n k)) [] refl
+site_once_from w n k m (s ∷ ss) = once_later (same_spot (Site n k)) (Branch m) (sites_from m 0 (awaited (actions_of w s.branch.handler)) ++ spots_from w (m + 1) ss) refl (of_test (n == m) refl (site_once_from w n k (m + 1) ss))
   where
     of_test : (b : Bool) → (n == m) ≡ b → IsOnce (same_spot (Site n k)) (spots_from w (m + 1) ss) → IsOnce (same_spot (Site n k)) (sites_from m 0 (awaited (actions_of w s.branch.handler)) ++ spots_from w (m + 1) ss)
     of_test true same rest =
@@ -227,5 +189,28 @@ once_from w n k m (s ∷ ss) = once_later (same_spot (Site n k)) (Branch m) (sit
         subst (λ i. IsOnce (same_spot (Site n k)) (sites_from i 0 (awaited (actions_of w s.branch.handler)) ++ spots_from w (m + 1) ss)) one (own_once n k 0 (awaited (actions_of w s.branch.handler)) (spots_from w (m + 1) ss) (others_never w n (same_spot (Site n k)) (site_alone n k) (m + 1) ss (omega (arith, one))))
     of_test false differs rest = once_behind (same_spot (Site n k)) (sites_from m 0 (awaited (actions_of w s.branch.handler))) (spots_from w (m + 1) ss) (sites_never (same_spot (Site n k)) m 0 (awaited (actions_of w s.branch.handler)) (λ j. site_alone n k (Site m j) differs)) rest
 
-pub site_once : (w : Parts) (n k : ℕ) → IsOnce (same_spot (Site n k)) (spots w)
-site_once w n k = once_from w n k 0 (placements w)
+-- and so does a branch
+branch_alone : (n : ℕ) (s : Spot) → (n == branch_of s) ≡ false → same_spot (Branch n) s ≡ false
+branch_alone n (Branch b) differs = differs
+branch_alone n (Site b k) differs = refl
+
+branch_once_from : (w : Parts) (n m : ℕ) (ss : List Placement) → IsOnce (same_spot (Branch n)) (spots_from w m ss)
+branch_once_from w n m [] = once_never (same_spot (Branch n)) [] refl
+branch_once_from w n m (s ∷ ss) = of_test (n == m) refl (branch_once_from w n (m + 1) ss)
+  where
+    sites : List Spot
+    sites = sites_from m 0 (awaited (actions_of w s.branch.handler))
+
+    no_site_is : list_any (same_spot (Branch n)) sites ≡ false
+    no_site_is = sites_never (same_spot (Branch n)) m 0 (awaited (actions_of w s.branch.handler)) (λ j. refl)
+
+    of_test : (b : Bool) → (n == m) ≡ b → IsOnce (same_spot (Branch n)) (spots_from w (m + 1) ss) → IsOnce (same_spot (Branch n)) (Branch m ∷ sites ++ spots_from w (m + 1) ss)
+    of_test true same rest =
+        let low : n < m + 1 = grind (arith, nat_tests, same) in
+        let none : list_any (same_spot (Branch n)) (sites ++ spots_from w (m + 1) ss) ≡ false = rw (list_any-append (same_spot (Branch n)) sites (spots_from w (m + 1) ss), no_site_is) (others_never w n (same_spot (Branch n)) (branch_alone n) (m + 1) ss low) in
+        once_here (same_spot (Branch n)) (Branch m) (sites ++ spots_from w (m + 1) ss) same none
+    of_test false differs rest = once_later (same_spot (Branch n)) (Branch m) (sites ++ spots_from w (m + 1) ss) differs (once_behind (same_spot (Branch n)) sites (spots_from w (m + 1) ss) no_site_is rest)
+
+pub spot_once : (w : Parts) (s : Spot) → IsOnce (same_spot s) (spots w)
+spot_once w (Branch n) = branch_once_from w n 0 (placements w)
+spot_once w (Site n k) = site_once_from w n k 0 (placements w)

@@ -13,8 +13,8 @@ use Rattle.ccr_model.specs.Legal.{IsLegal}
 use Rattle.ccr_model.specs.Order.{fire_at, fire_from}
 use Rattle.ccr_model.proofs.CanFire.{some_fire_at}
 use Rattle.ccr_base.proofs.Booleans.{neither}
+use Rattle.ccr_base.specs.Lists.{has_number}
 use Rattle.ccr_engine.specs.Touched.{touches}
-use Rattle.ccr_engine.specs.Ready.{has_number}
 use Rattle.ccr_engine.specs.Numbered.{Gains, passes_at}
 use Rattle.ccr_engine.specs.Blocked.{is_blocked}
 use Rattle.ccr_engine.specs.Cursor.{IsStill, could_fire}

@@ -1,18 +1,17 @@
 -- Which spots come in after an event, by the indices of what it touches.
-use Rattle.std.proofs.Common.{◌≡◌, ◌∙◌, ℕ, Bool, false, ◌||◌, List, [], ◌∷◌, Option, None, Some, refl, ap, sym}
+use Rattle.std.proofs.Common.{◌≡◌, ◌∙◌, ℕ, Bool, false, List, [], ◌∷◌, Option, None, Some, refl, ap, sym}
 use Rattle.std.specs.Prelude.{◌==◌}
-use Rattle.std.specs.List.{list_any}
 use Rattle.std.specs.Option.{option_map_or}
 use Rattle.ccr_base.specs.declared.messages.Msg.{Msg}
 use Rattle.ccr_base.specs.declared.names.TaskId.{TaskId}
 use Rattle.ccr_base.specs.declared.names.Spot.{Spot}
 use Rattle.ccr_base.specs.declared.names.Spot.TheVariants.{Branch, Site}
-use Rattle.ccr_base.specs.declared.patterns.Slot.{Slot}
-use Rattle.ccr_base.specs.declared.patterns.Pattern.{Pattern}
-use Rattle.ccr_base.specs.declared.patterns.Pattern.TheVariants.{Slots, Gather}
 use Rattle.ccr_base.specs.Names.{same_spot}
 use Rattle.ccr_wiring.specs.declared.parts.Parts.{Parts}
-use Rattle.ccr_wiring.specs.Wirings.{Placement, placement, site_port, spots, branch_of, segment_of, next_site}
+use Rattle.ccr_wiring.specs.Spots.{pattern_ports}
+use Rattle.ccr_wiring.specs.Takers.{takes_from}
+use Rattle.ccr_wiring.specs.Wirings.{Placement, placement, site_port, spots, next_site}
+use Rattle.ccr_wiring.proofs.Lists.{any_none}
 use Rattle.ccr_model.specs.declared.history.Event.{Event}
 use Rattle.ccr_model.specs.declared.history.Event.TheVariants.{Post, Fire, Admit, Put, Start, End}
 use Rattle.ccr_model.specs.declared.history.EndHow.{EndHow}
@@ -20,23 +19,13 @@ use Rattle.ccr_model.specs.declared.history.EndHow.TheVariants.{Done, Failed, Yi
 use Rattle.ccr_model.specs.Firings.{yielded_by}
 use Rattle.ccr_ledger.specs.declared.cards.Card.{Card}
 use Rattle.ccr_ledger.specs.Books.{Books, card_at}
-use Rattle.ccr_engine.specs.Touched.{posts_to, names_any, touches_branch}
-use Rattle.ccr_engine.specs.Numbered.{Gains, AreIndices, passes_at}
-use Rattle.ccr_engine.specs.Ready.{has_number}
-use Rattle.ccr_engine.specs.Indices.{first_index, takes_from}
+use Rattle.ccr_engine.specs.Touched.{posts_to, touches_branch}
+use Rattle.ccr_engine.specs.Numbered.{Gains, passes_at}
+use Rattle.ccr_engine.specs.Indices.{first_index}
 use Rattle.ccr_engine.specs.Parts.{yields_in, touches_in}
 use Rattle.ccr_engine.proofs.Gaining.{gains-same, gains-none, passes-same, passes-never}
-use Rattle.ccr_engine.proofs.SpotIndices.{site_once}
+use Rattle.ccr_engine.proofs.SpotIndices.{spot_once}
 use Rattle.std.proofs.Math.Bool.{or-false}
-
--- an event that is no post names no port
-slots_silent : (e : Event) → ((port : ℕ) → posts_to e port ≡ false) → (slots : List Slot) → list_any (λ (s : Slot). posts_to e s.port) slots ≡ false
-slots_silent e silent [] = refl
-slots_silent e silent (s ∷ slots) = rw (silent s.port) (slots_silent e silent slots)
-
-pattern_silent : (e : Event) → ((port : ℕ) → posts_to e port ≡ false) → (p : Pattern) → names_any (posts_to e) p ≡ false
-pattern_silent e silent (Slots slots) = slots_silent e silent slots
-pattern_silent e silent (Gather total a b) = rw (silent a, silent b) refl
 
 module _ (w : Parts) (b : Books) where
   -- a post touches the spots that take from its port
@@ -50,7 +39,7 @@ module _ (w : Parts) (b : Books) where
     where
       of_placement : (o : Option Placement) → option_map_or (touches_branch e) o false ≡ false
       of_placement None = refl
-      of_placement (Some s) = pattern_silent e silent s.branch.pattern
+      of_placement (Some s) = any_none (posts_to e) (pattern_ports s.branch.pattern) silent
 
   silent_port : (e : Event) → ((port : ℕ) → posts_to e port ≡ false) → (o : Option ℕ) → option_map_or (posts_to e) o false ≡ false
   silent_port e silent None = refl
@@ -76,22 +65,19 @@ module _ (w : Parts) (b : Books) where
   spots_none : (p : Spot → Bool) (old : List ℕ) → ((s : Spot) → p s ≡ false) → Gains (passes_at p (spots w)) old old
   spots_none p old never = gains-none (passes_at p (spots w)) old (passes-never p (spots w) never)
 
-  spots_listed : (p q : Spot → Bool) (numbers old new : List ℕ) → AreIndices p (spots w) numbers → ((s : Spot) → p s ≡ q s) → Gains (has_number numbers) old new → Gains (passes_at q (spots w)) old new
-  spots_listed p q numbers old new indices same gains = spots_same p q old new same (gains-same (has_number numbers) (passes_at p (spots w)) old new indices gains)
-
   -- after a yield of a task that fired, or of one that never did
   pub yield_known : (t : TaskId) (c : Card) (index : Option ℕ) (old new : List ℕ) → card_at b.tasks t ≡ Some c → index ≡ first_index (same_spot (next_site c.spot)) (spots w) → Gains (λ n. option_map_or (λ one. n == one) index false) old new → Gains (passes_at (λ s. yields_in b s t) (spots w)) old new
   yield_known t c index old new at is gains =
       gains-same (λ n. option_map_or (λ one. n == one) index false) (passes_at (λ s. yields_in b s t) (spots w)) old new
-      (λ n. ap (λ o. option_map_or (λ one. n == one) o false) is ∙ (sym (site_once w (branch_of c.spot) (segment_of c.spot) n) ∙ passes-same (same_spot (next_site c.spot)) (λ s. yields_in b s t) (spots w) (λ s. rw at refl) n))
+      (λ n. ap (λ o. option_map_or (λ one. n == one) o false) is ∙ (sym (spot_once w (next_site c.spot) n) ∙ passes-same (same_spot (next_site c.spot)) (λ s. yields_in b s t) (spots w) (λ s. rw at refl) n))
       gains
 
   pub yield_unknown : (t : TaskId) (old : List ℕ) → card_at b.tasks t ≡ None → Gains (passes_at (λ s. yields_in b s t) (spots w)) old old
   yield_unknown t old at = spots_none (λ s. yields_in b s t) old (λ s. rw at refl)
 
   -- after each event
-  pub post_touched : (m : Msg) (numbers old new : List ℕ) → AreIndices (takes_from w m.port) (spots w) numbers → Gains (has_number numbers) old new → Gains (passes_at (touches_in w b (Post m)) (spots w)) old new
-  post_touched m numbers old new indices = spots_listed (takes_from w m.port) (touches_in w b (Post m)) numbers old new indices (λ s. sym (posted m s))
+  pub post_touched : (m : Msg) (old new : List ℕ) → Gains (passes_at (takes_from w m.port) (spots w)) old new → Gains (passes_at (touches_in w b (Post m)) (spots w)) old new
+  post_touched m old new = spots_same (takes_from w m.port) (touches_in w b (Post m)) old new (λ s. sym (posted m s))
 
   none_touched : (e : Event) (old : List ℕ) → ((port : ℕ) → posts_to e port ≡ false) → yielded_by e ≡ [] → Gains (passes_at (touches_in w b e) (spots w)) old old
   none_touched e old silent stays = spots_none (touches_in w b e) old (untouched e silent stays)

@@ -7,7 +7,7 @@ use Rattle.std.proofs.lemmas.Bool.Decides.{nat_tests}
 use Rattle.ccr_base.specs.declared.names.TaskId.{TaskId}
 use Rattle.ccr_base.specs.declared.names.Spot.{Spot}
 use Rattle.ccr_base.specs.declared.names.Spot.TheVariants.{Branch, Site}
-use Rattle.ccr_base.specs.Names.{has_task, same_spot}
+use Rattle.ccr_base.specs.Names.{same_spot}
 use Rattle.ccr_wiring.specs.declared.parts.Parts.{Parts}
 use Rattle.ccr_wiring.specs.Wirings.{Placement, placement, site_port}
 use Rattle.ccr_model.specs.declared.history.Event.{Event}
@@ -18,14 +18,14 @@ use Rattle.ccr_model.specs.Posts.{held}
 use Rattle.ccr_model.specs.Live.{is_none_of, is_live, is_live_in}
 use Rattle.ccr_model.specs.Enough.{has_enough, can_take}
 use Rattle.ccr_model.specs.Legal.{IsLegal}
-use Rattle.ccr_model.proofs.Pushes.{yielded-push, firings-push}
+use Rattle.ccr_model.proofs.OneMoreEvent.{yielded-push, firings-push}
 use Rattle.ccr_model.proofs.TasksLeft.{filter_on}
 use Rattle.ccr_base.proofs.Booleans.{both, neither, refuted, no_both}
 use Rattle.ccr_model.proofs.TaskLists.{filter_append}
 use Rattle.ccr_engine.specs.Touched.{posts_to, touches_branch, touches}
 use Rattle.ccr_engine.specs.Cursor.{could_fire}
 use Rattle.ccr_engine.proofs.Lives.{live_before, fired_where-append}
-use Rattle.ccr_engine.proofs.Takes.{less_before, enough_before, some_before}
+use Rattle.ccr_engine.proofs.LessIsThereToTake.{less_before, enough_before, some_before}
 use Rattle.ccr_model.proofs.Suspending.{yielded_fired, yields_stays}
 
 -- a branch

@@ -2,13 +2,14 @@
 use Rattle.std.specs.Prelude.{◌≡◌, ℕ, ◌<◌, true, false, List, Option, Some, IfSome, option_map}
 use Rattle.std.specs.List.{slice_get}
 use Rattle.ccr_base.specs.declared.names.TaskId.{TaskId}
+use Rattle.ccr_base.specs.Lists.{has_number}
 use Rattle.ccr_wiring.specs.declared.parts.Parts.{Parts}
 use Rattle.ccr_wiring.specs.Wirings.{spots}
 use Rattle.ccr_ledger.specs.Rows.{row}
 use Rattle.ccr_ledger.specs.Books.{Books}
 use Rattle.ccr_ledger.specs.Asked.{room}
 use Rattle.ccr_engine.specs.declared.search.Found.{Found}
-use Rattle.ccr_engine.specs.Ready.{has_number, IsLeastFirst}
+use Rattle.ccr_engine.specs.Ready.{IsLeastFirst}
 use Rattle.ccr_engine.specs.Numbered.{passes_at}
 use Rattle.ccr_engine.specs.Blocked.{AreBlocked, is_before, is_blocked}
 use Rattle.ccr_engine.specs.Parts.{could_fire_in, fires_in, IsStillIn}

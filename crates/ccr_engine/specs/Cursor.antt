@@ -5,6 +5,7 @@ use Rattle.ccr_wiring.specs.declared.parts.Parts.{Parts}
 use Rattle.ccr_wiring.specs.declared.parts.PosterPart.{PosterPart}
 use Rattle.ccr_wiring.specs.Wirings.{spots}
 use Rattle.std.specs.List.{slice_get}
+use Rattle.ccr_base.specs.Lists.{has_number}
 use Rattle.ccr_model.specs.declared.history.Event.{Event}
 use Rattle.ccr_model.specs.declared.history.Event.TheVariants.{Start}
 use Rattle.ccr_model.specs.Enough.{can_take}
@@ -12,7 +13,6 @@ use Rattle.ccr_model.specs.Live.{is_live}
 use Rattle.ccr_model.specs.Order.{admit_first}
 use Rattle.ccr_model.specs.Posts.{posts_of_poster}
 use Rattle.ccr_model.specs.Tasks.{waiting, queued}
-use Rattle.ccr_engine.specs.Ready.{has_number}
 use Rattle.ccr_engine.specs.Numbered.{passes_at}
 use Rattle.ccr_engine.specs.Blocked.{is_blocked}
 

@@ -5,6 +5,7 @@ use Rattle.std.specs.Option.{option_map_or, option_or}
 use Rattle.ccr_base.specs.declared.names.TaskId.{TaskId}
 use Rattle.ccr_base.specs.declared.names.Spot.{Spot}
 use Rattle.ccr_base.specs.Names.{has_task}
+use Rattle.ccr_base.specs.Lists.{has_number}
 use Rattle.ccr_wiring.specs.declared.parts.Parts.{Parts}
 use Rattle.ccr_wiring.specs.Wirings.{spots as spots_of}
 use Rattle.ccr_model.specs.declared.history.Event.{Event}
@@ -24,7 +25,7 @@ use Rattle.ccr_ledger.specs.Asked.{lives, room, choice_at, cuts, may_admit_task,
 use Rattle.ccr_ledger.specs.declared.cards.Card.{Card}
 use Rattle.ccr_ledger.specs.Events.{after_event, empty_books}
 use Rattle.ccr_ledger.specs.Kept.{Keeps}
-use Rattle.ccr_engine.specs.Ready.{has_number, AreReady, IsLeastFirst}
+use Rattle.ccr_engine.specs.Ready.{AreReady, IsLeastFirst}
 use Rattle.ccr_engine.specs.Numbered.{Gains, IsNoneBut, passes_at}
 use Rattle.ccr_engine.specs.Cursor.{IsStill, admission, start_at, are_done}
 use Rattle.ccr_engine.specs.Blocked.{AreBlocked}

@@ -1,12 +1,12 @@
 -- What an engine is to its callers.
-use Rattle.std.specs.Prelude.{◌≤◌, ◌<◌, ◌+◌, ◌^◌, ℕ, List, length, Option}
+use Rattle.std.specs.Prelude.{◌≤◌, ◌<◌, ◌+◌, ℕ, List, length, Option}
 use Rattle.ccr_base.specs.Bounds.{most_actors}
 use Rattle.ccr_wiring.specs.declared.parts.Parts.{Parts}
 use Rattle.ccr_wiring.specs.Valid.{IsValid}
 use Rattle.ccr_model.specs.declared.history.Event.{Event}
 use Rattle.ccr_model.specs.Firings.{fired}
 use Rattle.ccr_model.specs.Legal.{IsLegal}
-use Rattle.ccr_model.specs.Order.{first, next_attempt, with_first}
+use Rattle.ccr_model.specs.Order.{first, most_attempts, next_attempt, with_first}
 
 pub record Engine : Type 0 where
   pub wiring : Parts
@@ -27,4 +27,4 @@ pub record IsSound (engine : Engine) : Type 0 where
   pub high : length engine.wiring.posters ≤ engine.closer
   pub low : engine.closer ≤ most_actors
   pub legal : IsLegal engine.wiring engine.history
-  pub attempts : next_attempt engine.closer (fired engine.history) < 2 ^ 31 + length engine.history
+  pub attempts : next_attempt engine.closer (fired engine.history) < most_attempts + length engine.history

@@ -2,16 +2,13 @@
 use Rattle.std.specs.Prelude.{◌≡◌, ◌<◌, ℕ, ◌||◌, Bool, false, List, Option, None}
 use Rattle.std.specs.List.{slice_get}
 use Rattle.std.specs.Option.{option_map_or}
+use Rattle.ccr_base.specs.Lists.{has_number}
 use Rattle.ccr_model.specs.declared.history.Event.{Event}
-use Rattle.ccr_engine.specs.Ready.{has_number, IsLeastFirst}
+use Rattle.ccr_engine.specs.Ready.{IsLeastFirst}
 
 -- whether the item at the index passes the test
 abbrev pub passes_at : {T : Type 0} → (T → Bool) → List T → ℕ → Bool
 passes_at test items index = option_map_or test (slice_get items index) false
-
--- the numbers are the indices of the items that pass the test
-abbrev pub AreIndices : {T : Type 0} → (T → Bool) → List T → List ℕ → Type 0
-AreIndices test items numbers = (index : ℕ) → has_number numbers index ≡ passes_at test items index
 
 -- the numbers afterwards are those before and all that pass the test
 pub record Gains (test : ℕ → Bool) (old new : List ℕ) : Type 0 where

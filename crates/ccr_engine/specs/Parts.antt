@@ -8,6 +8,7 @@ use Rattle.ccr_base.specs.declared.messages.Sent.{Sent}
 use Rattle.ccr_base.specs.declared.names.Spot.{Spot}
 use Rattle.ccr_base.specs.declared.names.Spot.TheVariants.{Branch, Site}
 use Rattle.ccr_base.specs.Names.{same_spot}
+use Rattle.ccr_base.specs.Lists.{has_number}
 use Rattle.ccr_handler.specs.declared.segments.Play.{Play}
 use Rattle.ccr_wiring.specs.declared.parts.Parts.{Parts}
 use Rattle.ccr_wiring.specs.declared.parts.PosterPart.{PosterPart}
@@ -25,7 +26,6 @@ use Rattle.ccr_ledger.specs.declared.cards.Card.{Card}
 use Rattle.ccr_ledger.specs.Books.{Books, number, card_at}
 use Rattle.ccr_ledger.specs.Asked.{lives, room, choice_at, cuts, may_admit_task, drops, play_in, made_in, budget_lasts}
 use Rattle.ccr_engine.specs.Touched.{posts_to, touches_branch, fires_for}
-use Rattle.ccr_engine.specs.Ready.{has_number}
 use Rattle.ccr_engine.specs.Numbered.{passes_at}
 use Rattle.ccr_engine.specs.Blocked.{is_blocked}
 

@@ -1,15 +1,12 @@
 -- The tasks that may be put, by the numbers of their firings.
-use Rattle.std.specs.Prelude.{◌≡◌, ℕ, ◌==◌, ◌<◌, Bool, true, false, List, Some}
-use Rattle.std.specs.List.{slice_get, list_any}
+use Rattle.std.specs.Prelude.{◌≡◌, ℕ, ◌<◌, Bool, true, false, List, Some}
+use Rattle.std.specs.List.{slice_get}
 use Rattle.std.specs.Option.{option_map_or}
+use Rattle.ccr_base.specs.Lists.{has_number}
 use Rattle.ccr_wiring.specs.declared.parts.Parts.{Parts}
 use Rattle.ccr_model.specs.declared.history.Event.{Event}
 use Rattle.ccr_model.specs.Firings.{fired}
 use Rattle.ccr_model.specs.Rules.{may_put}
-
--- whether the number is among them
-abbrev pub has_number : List ℕ → ℕ → Bool
-has_number numbers number = list_any (λ other. other == number) numbers
 
 -- whether the task of the firing of this number may be put
 abbrev pub may_put_at : Parts → List Event → ℕ → Bool

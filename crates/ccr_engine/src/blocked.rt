@@ -2,8 +2,9 @@
 
 ghost use Rattle.std.specs.Prelude.{◌≡◌, ◌∷◌, ◌<◌, ◌==◌, ◌||◌, ℕ, IfOk, IfSome, OnOk, length};
 ghost use Rattle.std.specs.List.{slice_get};
+ghost use Rattle.ccr_base.specs.Lists.{has_number};
 ghost use Rattle.ccr_ledger.specs.Rows.{row, with_row, empty_rows};
-ghost use Rattle.ccr_engine.specs.Ready.{has_number, IsLeastFirst};
+ghost use Rattle.ccr_engine.specs.Ready.{IsLeastFirst};
 
 use crate::number_set::NumberSet;
 use ccr_base::OutOfMemory;
@@ -68,7 +69,7 @@ impl Blocked {
     pub(crate) fn leave_first(&mut self, queue: usize)
         requires within { queue < length self.old }
         ensures others { self.new ≡ with_row self.old queue (row self.new queue) }
-        ensures rest { IfSome (slice_get (row self.old queue) 0) (λ place. row self.old queue ≡ place ∷ row self.new queue) }
+        ensures rest { IfSome (slice_get (row self.old queue) 0) (λ index. row self.old queue ≡ index ∷ row self.new queue) }
         ensures least { IsLeastFirst (row self.new queue) }
     {
         let indices = &mut self.queues[queue];

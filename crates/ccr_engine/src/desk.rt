@@ -1,8 +1,8 @@
 //! All that the order is read from.
 
 ghost use Rattle.std.specs.Prelude.{◌≡◌, ◌<◌, ◌^◌, ℕ, IfOk, OnOk, length};
-ghost use Rattle.ccr_model.specs.Rules.{needs_no_admission};
-ghost use Rattle.ccr_engine.specs.Ready.{has_number, IsLeastFirst};
+ghost use Rattle.ccr_engine.specs.Ready.{IsLeastFirst};
+ghost use Rattle.ccr_base.specs.Lists.{has_number};
 ghost use Rattle.ccr_engine.specs.Desk.{Follows, IsAhead, IsIdle, after_attempt, after_ready, empty_desk, first_in};
 
 use crate::blocked::Blocked;
@@ -13,10 +13,10 @@ use crate::parts::{first_admit, first_post, first_put, first_run, first_start};
 use crate::queues::note_queue;
 use crate::search::first_fire;
 use crate::touched::note_touched;
-use ccr_base::{ActorNo, OutOfMemory, Spot, TaskId};
+use ccr_base::{ActorNo, OutOfMemory, TaskId};
 use ccr_ledger::Ledger;
 use ccr_model::Event;
-use ccr_model::placements::is_interleave;
+use ccr_model::rules::needs_no_admission;
 use ccr_wiring::Wiring;
 use std::alloc::Global;
 use std::marker::Model;
@@ -53,19 +53,6 @@ fn attempt_after(closer: ActorNo, event: &Event, attempt: u32) -> u32
         return attempt;
     }
     task.attempt + 1
-}
-
-/// Whether tasks of the spot are put without an admission.
-fn needs_no_admission(wiring: &Wiring, spot: Spot) -> bool
-    ensures { result ≡ needs_no_admission wiring.now spot }
-{
-    match spot {
-        Spot::Branch(branch) => match wiring.placement(branch) {
-            Some(placement) => !is_interleave(placement.kind),
-            None => false,
-        },
-        Spot::Site(_, _) => true,
-    }
 }
 
 /// The numbers of the tasks that may be put, after the event.

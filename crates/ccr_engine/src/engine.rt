@@ -1,10 +1,10 @@
 //! The engine, which keeps no event.
 
-ghost use Rattle.std.specs.Prelude.{◌≡◌, ◌<◌, ◌≤◌, ◌^◌, [], IfOk, IfSome, IfNone, OnErr, OnOk, Some, is_some, length, true};
+ghost use Rattle.std.specs.Prelude.{◌≡◌, ◌≤◌, [], IfOk, IfSome, IfNone, OnErr, OnOk, Some, is_some, length, true};
 ghost use Rattle.ccr_base.specs.Bounds.{most_actors};
 ghost use Rattle.ccr_model.specs.Firings.{fired};
 ghost use Rattle.ccr_model.specs.Legal.{IsAllowed, IsLegal, IsQuiet, is_complete};
-ghost use Rattle.ccr_model.specs.Order.{next_attempt, IsFinished};
+ghost use Rattle.ccr_model.specs.Order.{most_attempts, next_attempt, IsFinished};
 ghost use Rattle.ccr_ledger.specs.Kept.{Keeps};
 ghost use Rattle.ccr_engine.specs.Desk.{empty_desk};
 ghost use Rattle.ccr_engine.specs.Engine.{IsSound, next_event, next_engine};
@@ -83,7 +83,7 @@ impl<'w> Engine<'w> {
         requires no_poster { length wiring.now.posters ≤ closer }
         requires low { closer ≤ most_actors }
         requires legal { IsLegal wiring.now events.now }
-        requires attempts { next_attempt closer (fired events.now) ≤ 2 ^ 31 }
+        requires attempts { next_attempt closer (fired events.now) ≤ most_attempts }
         ensures { IfOk result (λ engine. engine ≡ record { wiring = wiring.now; closer = closer; history = events.now }) }
     {
         wiring.parts();

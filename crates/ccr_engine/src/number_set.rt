@@ -2,8 +2,8 @@
 
 ghost use Rattle.std.specs.Prelude.{◌≡◌, [], ◌∷◌, ℕ, ◌==◌, ◌&&◌, ◌||◌, not, IfSome, OnOk};
 ghost use Rattle.std.specs.List.{slice_get};
-ghost use Rattle.ccr_engine.specs.Ready.{has_number, IsLeastFirst};
-ghost use Rattle.ccr_engine.specs.Numbered.{Gains};
+ghost use Rattle.ccr_base.specs.Lists.{has_number};
+ghost use Rattle.ccr_engine.specs.Ready.{IsLeastFirst};
 
 use ccr_base::OutOfMemory;
 use std::alloc::Global;
@@ -48,16 +48,6 @@ impl NumberSet {
         ensures least { OnOk result (IsLeastFirst self.new) }
     {
         self.numbers.insert(number)?;
-        Ok(())
-    }
-
-    /// All these numbers are among them.
-    pub(crate) fn enter_all(&mut self, numbers: &[usize]) -> Result<(), OutOfMemory>
-        ensures { OnOk result (Gains (has_number numbers.now) self.old self.new) }
-    {
-        for number in numbers {
-            self.enter(*number)?;
-        }
         Ok(())
     }
 

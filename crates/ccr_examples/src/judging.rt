@@ -14,7 +14,7 @@ use std::alloc::Global;
 
 /// What is found of a history.
 #[derive(Clone, Copy, Debug)]
-pub enum Found {
+pub enum HistoryFound {
     /// The event of this place, from 0, isn't allowed after those before it, by the rule of this number.
     Illegal { at: u32, rule: u8 },
     /// Each event is allowed; whether the scripts are posted to their ends, and whether nothing more may happen.
@@ -36,21 +36,25 @@ fn first_refused(judge: &mut Judge<'_>, events: &[Event]) -> Result<Option<(u32,
 }
 
 /// What is found of a history of the wiring.
-pub fn judge(alloc: Global, wiring: &Wiring, history: &History) -> Result<Found, OutOfMemory>
+pub fn judge(alloc: Global, wiring: &Wiring, history: &History) -> Result<HistoryFound, OutOfMemory>
     ensures { IfOk result (Tells wiring.now history.now) }
 {
     let mut judge = Judge::new(alloc, wiring)?;
     if let Some((at, rule)) = first_refused(&mut judge, history.events())? {
-        return Ok(Found::Illegal { at, rule });
+        return Ok(HistoryFound::Illegal { at, rule });
     }
-    Ok(Found::Legal {
+    Ok(HistoryFound::Legal {
         complete: judge.complete(),
         quiet: judge.quiet()?,
     })
 }
 
 /// What is found of the history that this text says, or the line that offends.
-pub fn judge_text(alloc: Global, wiring: &Wiring, text: &[u8]) -> Result<Found, HistoryRefused>
+pub fn judge_text(
+    alloc: Global,
+    wiring: &Wiring,
+    text: &[u8],
+) -> Result<HistoryFound, HistoryRefused>
     requires { length text.now ≤ most_bytes }
     ensures { IfOk result (IsFound wiring.now text.now) }
 {

@@ -10,13 +10,13 @@ use std::sync::Wait;
 use std::thread::{self, Threads};
 
 #[derive(Drop)]
-pub struct Tally(u64);
+pub struct SharedSum(u64);
 
-/// What a tally is asked: to add this number. It answers the new sum, and notes it.
+/// What a shared sum is asked: to add this number. It answers the new sum, and notes it.
 #[derive(Clone, Copy)]
 pub struct Add(pub u64);
 
-impl Kept for Tally {
+impl Kept for SharedSum {
     type Ask = Add;
 
     type Reply = u64;
@@ -47,7 +47,12 @@ impl Kept for Tally {
 }
 
 // So many times 2 is added, at the lock of place 0.
-fn raise<R: Wait>(rt: &R, turns: &Turns<Tally>, mut seat: Seat<Tally>, times: u32) -> Seat<Tally>
+fn raise<R: Wait>(
+    rt: &R,
+    turns: &Turns<SharedSum>,
+    mut seat: Seat<SharedSum>,
+    times: u32,
+) -> Seat<SharedSum>
     requires seat { IsSeatOf turns.now seat }
     requires place { 0 < place_count turns.now }
     ensures { IsSeatOf turns.now result }
@@ -59,16 +64,16 @@ fn raise<R: Wait>(rt: &R, turns: &Turns<Tally>, mut seat: Seat<Tally>, times: u3
 }
 
 /// One tally, of 0.
-fn tallies(alloc: Global) -> Result<List<Tally>, OutOfMemory>
+fn tallies(alloc: Global) -> Result<List<SharedSum>, OutOfMemory>
     ensures { IfOk result (λ tallies. length tallies ≡ 1) }
 {
     let mut tallies = Vec::new(alloc);
-    tallies.push(Tally(0))?;
+    tallies.push(SharedSum(0))?;
     Ok(List::from_vec(tallies))
 }
 
 /// The sum of the first tally, and how many entries its history has.
-fn sum_of(kept: &[(Tally, List<Held<u64>>)]) -> (u64, usize) {
+fn sum_of(kept: &[(SharedSum, List<Held<u64>>)]) -> (u64, usize) {
     match kept.first() {
         Some((tally, history)) => (tally.0, history.as_slice().len()),
         None => (0, 0),
@@ -85,7 +90,7 @@ pub fn raise_by_two<R: AllocGlobal + Threads + Wait + Sync>(
     let seats = thread::map_vec(
         rt,
         seats.into_vec(),
-        &|seat: Seat<Tally>| -> Seat<Tally>
+        &|seat: Seat<SharedSum>| -> Seat<SharedSum>
             requires { IsSeatOf turns seat × (0 < place_count turns) }
             ensures { IsSeatOf turns result }
         { raise(rt, &turns, seat, times) },

@@ -14,7 +14,7 @@ use Rattle.ccr_base.specs.Values.{same_value}
 use Rattle.ccr_wiring.specs.declared.parts.PosterPart.{PosterPart}
 use Rattle.ccr_model.specs.declared.history.Event.{Event}
 use Rattle.ccr_model.specs.declared.history.Event.TheVariants as events
-use Rattle.ccr_model.specs.Posts.{posts, taken, taken_by, posts_of_poster, posts_of_task, posts_of_tasks, is_task_message}
+use Rattle.ccr_model.specs.Posts.{posts, taken, posts_of_poster, posts_of_task, posts_of_tasks, is_task_message}
 use Rattle.ccr_model.specs.Firings.{firings}
 use Rattle.ccr_model.specs.Tasks.{running}
 use Rattle.ccr_model.specs.TaskData.{play_of}
@@ -23,7 +23,7 @@ use Rattle.ccr_model.specs.Legal.{IsAllowed, IsLegal, are_whole_from, has_shed, 
 use Rattle.ccr_base.proofs.Booleans.{both}
 use Rattle.ccr_base.proofs.Options.{some_of, some_then}
 use Rattle.ccr_model.proofs.PostNames.{along, refused_not}
-use Rattle.ccr_model.proofs.Pushes.{posts-push, firings-push}
+use Rattle.ccr_model.proofs.OneMoreEvent.{posts-push, firings-push}
 use Rattle.ccr_model.proofs.TakenOnce.{FireFacts-allowed, taken-push}
 use Rattle.ccr_gen.specs.Posters.{sent, script, posters}
 use Rattle.ccr_gen.specs.Generated.{generated}

@@ -1,5 +1,6 @@
 -- The generated wiring. Its ports are a, b, c, up and out, numbered from 0; its queues q and t; its handlers hj and ho.
 use Rattle.std.specs.Prelude.{ℕ, List, [], ◌∷◌, codes}
+use Rattle.ccr_base.specs.Bounds.{most_task_posts}
 use Rattle.ccr_base.specs.declared.policies.Policy.TheVariants.{Unbounded, Throttle}
 use Rattle.ccr_base.specs.declared.policies.Group.{Group}
 use Rattle.ccr_base.specs.declared.policies.Group.TheVariants as groups
@@ -62,7 +63,7 @@ keep = arbiter (codes "keep") kinds.Interleave (branch (codes "upd") groups.Excl
 abbrev pub generated : ℕ → Parts
 generated size = record {
   version = 1;
-  budget = 10000;
+  budget = most_task_posts;
   queues = queues;
   ports = ports;
   sets = [];

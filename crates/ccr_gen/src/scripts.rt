@@ -1,6 +1,6 @@
 //! The posters of a generated wiring.
 
-ghost use Rattle.std.specs.Prelude.{◌≡◌, ◌≤◌, IfOk};
+ghost use Rattle.std.specs.Prelude.{◌≡◌, IfOk};
 ghost use Rattle.ccr_gen.specs.Posters.{sent, script, poster, posters};
 
 use ccr_base::{List, OutOfMemory, Sent, Value};

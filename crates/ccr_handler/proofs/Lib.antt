@@ -1,1 +1,2 @@
 pub mod SamePlays
+pub mod PlaysLeft

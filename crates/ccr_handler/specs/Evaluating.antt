@@ -1,5 +1,5 @@
 -- What an expression stands for over the values of a task.
-use Rattle.std.specs.Prelude.{ℕ, zero, suc, ◌^◌, ◌%◌, max, List, [], ◌∷◌, map, length, sum, slice_index, Option, unwrap_or}
+use Rattle.std.specs.Prelude.{ℕ, ◌^◌, ◌%◌, max, List, [], ◌∷◌, map, length, sum, slice_index, unwrap_or}
 use Rattle.std.specs.List.{slice_get, range_with_len}
 use Rattle.std.specs.Option.{option_map_or}
 use Rattle.ccr_base.specs.Values.{value_of_numbers}

@@ -1,7 +1,6 @@
 //! The plays of a wiring's branches.
 
-ghost use Rattle.std.specs.Prelude.{◌≡◌, [], IfOk, map};
-ghost use Rattle.std.specs.Option.{option_map_or};
+ghost use Rattle.std.specs.Prelude.{◌≡◌, IfOk, map};
 ghost use Rattle.ccr_wiring.specs.declared.parts.CausePart.{CausePart};
 ghost use Rattle.ccr_wiring.specs.Wirings.{exception_port};
 ghost use Rattle.ccr_handler.specs.Playing.{actions_from, branch_play, idle_play, play};

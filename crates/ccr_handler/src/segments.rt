@@ -6,7 +6,7 @@ ghost use Rattle.ccr_handler.specs.Playing.{actions_from, exceptions, play};
 
 use crate::actions::actions_from;
 use crate::values::value_of;
-use ccr_base::{Action, CauseNo, Expr, Handler, List, OutOfMemory, PortNo, Sent, Value};
+use ccr_base::{Action, CauseNo, Handler, List, OutOfMemory, PortNo, Sent, Value};
 use ccr_cause::{add, remove};
 use std::alloc::Global;
 

@@ -1,6 +1,6 @@
 //! The value of an expression over the values of a task.
 
-ghost use Rattle.std.specs.Prelude.{◌≡◌, ◌≤◌, ◌^◌, ◌%◌, map, sum};
+ghost use Rattle.std.specs.Prelude.{◌≡◌, ◌≤◌, sum};
 ghost use Rattle.ccr_handler.specs.Evaluating.{value_of, number_at, longest, sum_at, sum_of, part_of};
 
 use ccr_base::{Expr, MAX_VALUE_NUMBERS, Value};

@@ -12,21 +12,21 @@ pub(crate) fn group_at(branches: &List<BranchNo>, groups: &List<Group>, spot: Sp
     let Spot::Branch(branch) = spot else {
         return None;
     };
-    match place_of(branches.as_slice(), branch) {
+    match index_of(branches.as_slice(), branch) {
         Some(index) => group_of(groups.as_slice(), index),
         None => None,
     }
 }
 
-/// The group at the place.
+/// The group at the index.
 fn group_of(groups: &[Group], index: usize) -> Option<Group>
     ensures { result ≡ slice_get groups.now index }
 {
     groups.get(index).copied()
 }
 
-/// The place of the branch.
-fn place_of(branches: &[BranchNo], branch: BranchNo) -> Option<usize>
+/// The index of the branch.
+fn index_of(branches: &[BranchNo], branch: BranchNo) -> Option<usize>
     ensures { result ≡ position (λ other. other == branch) branches.now }
 {
     branches.iter().position(|other| *other == branch)

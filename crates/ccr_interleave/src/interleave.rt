@@ -6,7 +6,7 @@ ghost use Rattle.indexmap.specs.IndexMap.{get, keys, Updates, IsUnique};
 ghost use Rattle.ccr_base.specs.Names.{same_task};
 ghost use Rattle.ccr_base.specs.declared.names.MsgId.{MsgId};
 ghost use Rattle.ccr_places.specs.Commits.{commit_note};
-ghost use Rattle.ccr_places.specs.Interleaves.{start, group_at as group_of, is_teardown as is_teardown_group, may_commit as can_commit, may_over as can_over, dead_by, may_admit as can_admit, admit_note, after_over, after, IsGiven};
+ghost use Rattle.ccr_places.specs.Interleaves.{start, group_at as group_of, is_teardown as is_teardown_group, may_commit as can_commit, may_over as can_over, may_admit as can_admit, after_over, after, IsGiven};
 ghost use Rattle.ccr_places.specs.declared.notes.Note.TheVariants.{Admit, Over};
 ghost use Rattle.ccr_interleave.specs.Replies.{cut_of, commit_reply, cut_count as count_of_cuts, after_commit, after_wait, next_task, after_oldest, after_next};
 

@@ -1,6 +1,5 @@
 -- What a source and a sink in memory are.
-use Rattle.std.specs.Prelude.{ℕ, ◌+◌, ◌-◌, ◌^◌, min, ◌==◌, Bool, List, Option, Some, None, if◌then◌else◌}
-use Rattle.std.specs.List.{list_any}
+use Rattle.std.specs.Prelude.{ℕ, ◌+◌, ◌-◌, ◌^◌, min, Bool, List, Option, Some, None, if◌then◌else◌}
 
 -- the bytes still to come, the numbers of the calls that fail, and how many calls were made and failed
 pub record SourceState : Type 0 where
@@ -30,10 +29,6 @@ pub record SureState : Type 0 where
 -- what was written is told until a byte has found no room
 abbrev pub told : SureState → Option (List ℕ)
 told sink = if sink.is_whole then Some sink.kept else None
-
--- whether the call of this number is among those that fail
-abbrev pub is_listed : List ℕ → ℕ → Bool
-is_listed failing call = list_any (λ listed. listed == call) failing
 
 -- a count after one more, which stays at its last value
 abbrev pub raised : ℕ → ℕ

@@ -1,8 +1,9 @@
 //! A source and a sink in memory, whose calls fail where they are told to.
 
 ghost use Rattle.std.specs.Prelude.{◌≡◌, ◌+◌, ◌≤◌, ◌==◌, ◌||◌, [], ◌++◌, Some, min, is_err, if◌then◌else◌, length, take, IfOk, OnErr};
+ghost use Rattle.ccr_base.specs.Lists.{has_number};
 ghost use Rattle.ccr_io.specs.Faults.{Rose};
-ghost use Rattle.ccr_io.specs.Memory.{is_listed, raised};
+ghost use Rattle.ccr_io.specs.Memory.{raised};
 
 use crate::{Failed, Sink, Source};
 use ccr_base::{List, OutOfMemory};
@@ -57,7 +58,7 @@ impl MemorySource {
 /// Copies as many bytes as there are and as fit, and answers how many.
 pub fn copy_front(buf: &mut [u8], bytes: &[u8]) -> usize
     ensures count { result ≡ min (length bytes.now) (length buf.old) }
-    ensures front { take result buf.new ≡ take result bytes.now }
+    ensures prefix { take result buf.new ≡ take result bytes.now }
 {
     let count = bytes.len().min(buf.len());
     buf[..count].copy_from_slice(&bytes[..count]);
@@ -72,7 +73,7 @@ impl Source for MemorySource {
     fn read(&mut self, buf: &mut [u8]) -> Result<usize, Failed>
         ensures fits { IfOk result (λ n. n ≡ min (length self.old.rest) (length buf.old)) }
         ensures read { IfOk result (λ n. self.old.rest ≡ take n buf.new ++ self.new.rest) }
-        ensures failed { is_err result ≡ is_listed self.old.failing self.old.calls }
+        ensures failed { is_err result ≡ has_number self.old.failing self.old.calls }
         ensures kept { OnErr result (self.new.rest ≡ self.old.rest) }
         ensures cause { OnErr result (Rose self.old.faults self.new.faults) }
         ensures count { self.old.faults ≤ self.new.faults }
@@ -149,7 +150,7 @@ impl Sink for MemorySink {
         ensures fits { IfOk result (λ n. n ≡ min self.old.room (length piece.now)) }
         ensures room { IfOk result (λ n. self.old.room ≡ n + self.new.room) }
         ensures added { IfOk result (λ n. self.new.written ≡ self.old.written ++ take n piece.now) }
-        ensures failed { is_err result ≡ (self.old.room == 0 || is_listed self.old.failing self.old.calls) }
+        ensures failed { is_err result ≡ (self.old.room == 0 || has_number self.old.failing self.old.calls) }
         ensures kept { OnErr result ((self.new.written ≡ self.old.written) × (self.new.room ≡ self.old.room)) }
         ensures cause { OnErr result (Rose self.old.faults self.new.faults) }
         ensures count { self.old.faults ≤ self.new.faults }

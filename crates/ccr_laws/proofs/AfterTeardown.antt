@@ -20,13 +20,13 @@ use Rattle.ccr_model.specs.Tasks.{is_interleave, is_teardown, is_concurrent, is_
 use Rattle.ccr_model.specs.Rules.{cuts_at}
 use Rattle.ccr_model.specs.Legal.{IsAllowed, IsLegal}
 use Rattle.ccr_model.proofs.Stable.{firing_named-append}
-use Rattle.ccr_model.proofs.Pushes.{started-push, ever_admitted-push, cut-push}
+use Rattle.ccr_model.proofs.OneMoreEvent.{started-push, ever_admitted-push, cut-push}
 use Rattle.ccr_model.proofs.LegalParts.{along_legal, onward, Parted-legal}
 use Rattle.ccr_base.proofs.Options.{some_of}
 use Rattle.ccr_model.proofs.TasksLeft.{out_left}
 use Rattle.ccr_base.proofs.Booleans.{both, and_not, refuted, no_both, same_number}
 use Rattle.ccr_model.proofs.FiredTasks.{IsFired, IsFired-append, placement_fired, placement_stays, root_stays}
-use Rattle.ccr_model.proofs.Alone.{over_stays, lasts_fired, ever_admitted_fired}
+use Rattle.ccr_model.proofs.ExclusiveRootsAreAlone.{over_stays, lasts_fired, ever_admitted_fired}
 use Rattle.ccr_model.specs.Interleaves.{is_placement_in, is_teardown_in, is_exclusive_in, tears_down, is_of_interleave, is_of_teardown, is_of_exclusive}
 use Rattle.ccr_model.proofs.TaskLists.{has_oldest, of_more, of_one, out_right}
 use Rattle.ccr_model.proofs.TaskPlaces.{ArePlaced-legal, StartFacts-allowed, placement_by}

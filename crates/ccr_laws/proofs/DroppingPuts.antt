@@ -7,7 +7,7 @@ use Rattle.ccr_base.specs.Names.{same_task, has_task}
 use Rattle.ccr_wiring.specs.declared.parts.Parts.{Parts}
 use Rattle.ccr_model.specs.Firings.{dropped, dropped_by, started}
 use Rattle.ccr_model.specs.Legal.{IsAllowed, IsLegal}
-use Rattle.ccr_model.proofs.Pushes.{dropped-push}
+use Rattle.ccr_model.proofs.OneMoreEvent.{dropped-push}
 use Rattle.ccr_model.proofs.LegalParts.{along_legal}
 use Rattle.ccr_model.proofs.SameNames.{same_task-is}
 use Rattle.ccr_base.proofs.Booleans.{refuted, no_both}

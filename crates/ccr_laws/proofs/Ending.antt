@@ -19,17 +19,17 @@ use Rattle.ccr_model.specs.Tasks.{is_interleave, fired_by, waiting, is_for_queue
 use Rattle.ccr_model.specs.Rules.{is_first, is_oldest_waiting, may_put, is_oldest_queued}
 use Rattle.ccr_model.specs.Legal.{IsAllowed, IsLegal}
 use Rattle.ccr_model.proofs.PostNames.{along, refused_not}
-use Rattle.ccr_model.proofs.Quiet.{first_is}
+use Rattle.ccr_model.proofs.QuietAllowsNone.{first_is}
 use Rattle.ccr_model.proofs.Allowing.{head_passes}
 use Rattle.ccr_model.proofs.TakenOnce.{FireFacts-allowed, untaken}
-use Rattle.ccr_model.proofs.Pushes.{firings-push, fired-fire, put-push, started-push, ended-push, ever_admitted-push}
+use Rattle.ccr_model.proofs.OneMoreEvent.{firings-push, fired-fire, put-push, started-push, ended-push, ever_admitted-push}
 use Rattle.ccr_base.proofs.Options.{some_of, some_map, head_rest}
 use Rattle.ccr_model.proofs.TasksLeft.{of_without, out_left}
 use Rattle.ccr_base.proofs.Booleans.{both}
 use Rattle.ccr_model.proofs.FiredTasks.{fired_has, placement_fired}
 use Rattle.ccr_laws.specs.Potential.{TakesSome, event_bound}
-use Rattle.ccr_laws.proofs.Counting.{Fits, Fits-came, Fits-gone, head_member}
-use Rattle.ccr_laws.proofs.Taking.{untaken_post, untaken_fire}
+use Rattle.ccr_laws.proofs.EachGoesOnOnce.{Fits, Fits-came, Fits-gone, head_member}
+use Rattle.ccr_laws.proofs.MessagesAreTakenOnce.{untaken_post, untaken_fire}
 use Rattle.ccr_laws.proofs.Lines.{few_posts}
 
 -- what is known of the numbers of events of each kind

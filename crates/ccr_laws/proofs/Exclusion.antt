@@ -21,7 +21,7 @@ use Rattle.ccr_base.proofs.Options.{some_of}
 use Rattle.ccr_model.proofs.SameNames.{same_task-self}
 use Rattle.ccr_model.proofs.TasksLeft.{has_task-append}
 use Rattle.ccr_base.proofs.Booleans.{not_true, both, or_left, or_right}
-use Rattle.ccr_model.proofs.Alone.{is_alone-legal}
+use Rattle.ccr_model.proofs.ExclusiveRootsAreAlone.{is_alone-legal}
 use Rattle.ccr_model.specs.AtWork.{is_at_work}
 use Rattle.ccr_model.specs.Interleaves.{is_placement_in, is_exclusive_in, is_of_interleave, is_of_exclusive}
 use Rattle.ccr_model.proofs.TaskLists.{of_one, only_one, passes_all}

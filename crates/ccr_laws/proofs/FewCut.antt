@@ -3,7 +3,6 @@ use Rattle.std.proofs.Common.{◌≡◌, ℕ, ◌+◌, ◌≤◌, Bool, true, fa
 use Rattle.std.specs.Prelude.{◌==◌, if◌then◌else◌}
 use Rattle.std.specs.Option.{option_map_or}
 use Rattle.ccr_base.specs.declared.names.TaskId.{TaskId}
-use Rattle.ccr_base.specs.declared.names.MsgId.{MsgId}
 use Rattle.ccr_base.specs.declared.names.Spot.{Spot}
 use Rattle.ccr_base.specs.declared.names.Spot.TheVariants.{Branch, Site}
 use Rattle.ccr_base.specs.Names.{same_task, has_task, without}
@@ -19,7 +18,7 @@ use Rattle.ccr_base.proofs.Booleans.{or_left, or_right}
 use Rattle.ccr_base.proofs.Filters.{length-kept}
 use Rattle.ccr_model.proofs.AllowedFirings.{FiresSo-allowed}
 use Rattle.ccr_model.proofs.PostNames.{along}
-use Rattle.ccr_model.proofs.Pushes.{cut-push, fired-fire, firings-push}
+use Rattle.ccr_model.proofs.OneMoreEvent.{cut-push, fired-fire, firings-push}
 use Rattle.ccr_model.proofs.SameNames.{same_task-self}
 use Rattle.ccr_model.proofs.TaskLists.{without-append}
 use Rattle.ccr_model.proofs.TasksLeft.{has_task-append}

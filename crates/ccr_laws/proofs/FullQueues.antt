@@ -1,5 +1,5 @@
 -- A `discard n` queue never holds more than n tasks, so a put that drops finds exactly n.
-use Rattle.std.proofs.Common.{◌≡◌, ℕ, suc, ◌<◌, ◌≤◌, Bool, true, false, not, List, [], ◌∷◌, ◌++◌, length, filter, Option, Some, None, option_to_list, refl, sym, ap, ◌∙◌, arith, subst, append-nil, length-append}
+use Rattle.std.proofs.Common.{◌≡◌, ℕ, suc, ◌<◌, ◌≤◌, Bool, true, false, not, List, [], ◌∷◌, ◌++◌, length, Option, Some, None, option_to_list, refl, sym, ap, ◌∙◌, arith, subst, append-nil, length-append}
 use Rattle.std.specs.Prelude.{◌==◌, if◌then◌else◌, nat_le, option_and_then}
 use Rattle.std.specs.List.{slice_get}
 use Rattle.std.specs.Option.{option_map_or}
@@ -26,9 +26,10 @@ use Rattle.ccr_model.proofs.LegalParts.{along_legal}
 use Rattle.ccr_base.proofs.Options.{some_of}
 use Rattle.ccr_model.proofs.SameNames.{same_task-self}
 use Rattle.ccr_base.proofs.Booleans.{same_number}
+use Rattle.ccr_base.proofs.Filters.{length-kept}
 use Rattle.ccr_laws.specs.Occurring.{Occurs}
 use Rattle.ccr_laws.specs.Drops.{DropsOldest}
-use Rattle.ccr_laws.proofs.Allowed.{allowed_at, legal_past}
+use Rattle.ccr_laws.proofs.LegalEventsWereAllowed.{allowed_at, legal_past}
 use Rattle.ccr_model.proofs.TaskLists.{not_more, not_within}
 use Rattle.ccr_model.proofs.AllowedDrops.{put_allowed, drop_allowed}
 use Rattle.ccr_model.proofs.TaskPlaces.{ArePlaced-legal, PutFacts-allowed, new_drop}
@@ -45,10 +46,6 @@ some_most w valid q n is = of_option (slice_get w.queues q) refl is
         let inside : queue_is_outside part ≡ false = none_at queue_is_outside w.queues q part (within w (no_codes w valid).limits).queues at in
         let known : policy_is_outside (Discard n) ≡ false = subst (λ p. policy_is_outside p ≡ false) policy inside in
         grind (arith, nat_tests, known)
-
-few_left : (p : TaskId → Bool) (ts : List TaskId) → length (filter p ts) ≤ length ts
-few_left p [] = omega arith
-few_left p (t ∷ ts) = grind (arith, few_left p ts)
 
 -- a task that may be put neither started nor was dropped, and isn't the one that is dropped
 put_fresh : (w : Parts) (h : List Event) (t : TaskId) (d : Option TaskId) → IsLegal w h → IsAllowed w h (Put t d) → has_task (started h ++ (dropped h ++ option_to_list d)) t ≡ false
@@ -70,13 +67,13 @@ one_comes n ts t d some few is = of_test (nat_le n (length ts)) refl is
         let long : length ts ≡ suc (length xs) = rw same refl in
         let first : without (x ∷ xs) (x ∷ []) ≡ without xs (x ∷ []) = rw (same_task-self x) refl in
         let left : without ts (option_to_list d) ≡ without xs (x ∷ []) = ap (λ o. without ts (option_to_list o)) head ∙ ap (λ us. without us (x ∷ [])) same ∙ first in
-        rw left (omega (arith, length-append (without xs (x ∷ [])) (t ∷ []), few_left (λ u. not (has_task (x ∷ []) u)) xs, few, long))
+        rw left (omega (arith, length-append (without xs (x ∷ [])) (t ∷ []), length-kept (λ u. not (has_task (x ∷ []) u)) xs, few, long))
 
     of_test : (b : Bool) → nat_le n (length ts) ≡ b → d ≡ (if b then slice_get ts 0 else None) → length (without ts (option_to_list d) ++ t ∷ []) ≤ n
     of_test true e same = let full : n ≤ length ts = grind (arith, nat_tests, e) in goes ts refl full same
     of_test false e same =
         let room : length ts < n = grind (arith, nat_tests, e) in
-        omega (arith, length-append (without ts (option_to_list d)) (t ∷ []), few_left (λ u. not (has_task (option_to_list d) u)) ts, room)
+        omega (arith, length-append (without ts (option_to_list d)) (t ∷ []), length-kept (λ u. not (has_task (option_to_list d) u)) ts, room)
 
 -- the queue of a put
 drop_on : (w : Parts) (h : List Event) (q n : ℕ) (t : TaskId) → policy_of w q ≡ Discard n → is_for_queue w h q t ≡ true → drop_at w h t ≡ drop_by (Discard n) (queued w h q)
@@ -90,7 +87,7 @@ put_within w q n some policy h t d legal allowed few = subst (λ ts. length ts �
   where
     of_test : (b : Bool) → is_for_queue w h q t ≡ b → length (without (queued w h q) (option_to_list d) ++ (if b then t ∷ [] else [])) ≤ n
     of_test true here = one_comes n (queued w h q) t d some few ((put_allowed w h t d allowed).1 ∙ drop_on w h q n t policy here)
-    of_test false there = rw append-nil (omega (arith, few_left (λ u. not (has_task (option_to_list d) u)) (queued w h q), few))
+    of_test false there = rw append-nil (omega (arith, length-kept (λ u. not (has_task (option_to_list d) u)) (queued w h q), few))
 
 -- a `discard n` queue holds at most n tasks
 pub few_queued : (w : Parts) → IsValid w → (q n : ℕ) → policy_of w q ≡ Discard n → (h : List Event) → IsLegal w h → length (queued w h q) ≤ n
@@ -105,7 +102,7 @@ few_queued w valid q n policy = along_legal w (λ g. length (queued w g q) ≤ n
     kept h (End t how) legal allowed few = same h (End t how) (queued-other w h q (End t how) refl refl refl refl) few
     kept h (Fire t s ms cs) legal allowed few = same h (Fire t s ms cs) (queued-fire w h q t s ms cs (new_unput w h t legal (FiresSo-allowed w h t s ms cs allowed).new_name)) few
     kept h (Put t d) legal allowed few = put_within w q n (some_most w valid q n policy) policy h t d legal allowed few
-    kept h (Start t a) legal allowed few = subst (λ ts. length ts ≤ n) (sym (queued-start w h q t a)) (omega (arith, few_left (λ u. not (has_task (t ∷ []) u)) (queued w h q), few))
+    kept h (Start t a) legal allowed few = subst (λ ts. length ts ≤ n) (sym (queued-start w h q t a)) (omega (arith, length-kept (λ u. not (has_task (t ∷ []) u)) (queued w h q), few))
 
 -- a put drops the oldest of as many tasks as its queue's policy says
 pub drops_oldest : (w : Parts) → IsValid w → (h : List Event) → IsLegal w h → (past : List Event) (t x : TaskId) → Occurs h past (Put t (Some x)) → DropsOldest w past t x

@@ -15,7 +15,7 @@ use Rattle.ccr_model.specs.declared.history.Event.TheVariants as events
 use Rattle.ccr_model.specs.Posts.{posts, taken}
 use Rattle.ccr_model.specs.Legal.{IsAllowed, IsLegal}
 use Rattle.ccr_model.proofs.PostNames.{along, times, posted_once, times_more}
-use Rattle.ccr_model.proofs.Pushes.{posts-push}
+use Rattle.ccr_model.proofs.OneMoreEvent.{posts-push}
 use Rattle.ccr_model.proofs.SameNames.{same_message-is, same_message-self}
 use Rattle.ccr_model.proofs.TakenOnce.{FireFacts-allowed, named-choice, taken-push, taken_once, times-filter, times_named, untaken}
 use Rattle.ccr_model.proofs.MessageNames.{named_some, has_message-append}
@@ -28,14 +28,14 @@ left_whole : (ms : List Msg) → length (left_of [] ms) ≡ length ms
 left_whole [] = refl
 left_whole (m ∷ ms) = grind (arith, left_whole ms)
 
-pub named_cons : (name n : MsgId) (names : List MsgId) → times_named name (n ∷ names) ≡ (if same_message name n then 1 else 0) + times_named name names
+named_cons : (name n : MsgId) (names : List MsgId) → times_named name (n ∷ names) ≡ (if same_message name n then 1 else 0) + times_named name names
 named_cons name n names = grind (arith, common_steps)
 
 pub times_cons : (name : MsgId) (x : Msg) (ms : List Msg) → times name (x ∷ ms) ≡ (if same_message x.id name then 1 else 0) + times name ms
 times_cons name x ms = grind (arith, common_steps)
 
 -- a name that stands once stands in no rest
-pub not_in_rest : (n : MsgId) (names : List MsgId) → times_named n (n ∷ names) ≤ 1 → has_message names n ≡ false
+not_in_rest : (n : MsgId) (names : List MsgId) → times_named n (n ∷ names) ≤ 1 → has_message names n ≡ false
 not_in_rest n names once = by names (grind (arith, named_cons n n names, same_message-self n, once))
   where
     by : (ns : List MsgId) → times_named n ns ≡ 0 → has_message ns n ≡ false

@@ -1,4 +1,4 @@
-pub mod Allowed
+pub mod LegalEventsWereAllowed
 pub mod WholePatterns
 pub mod SingleFirings
 pub mod FullQueues
@@ -13,8 +13,8 @@ pub mod AfterTeardown
 pub mod ScriptLines
 pub mod HeldTaken
 pub mod FewCut
-pub mod Counting
-pub mod Taking
+pub mod EachGoesOnOnce
+pub mod MessagesAreTakenOnce
 pub mod Lines
 pub mod Ending
 pub mod Valid

@@ -19,7 +19,7 @@ use Rattle.ccr_model.specs.Posts.{posts, is_script_of, is_task_message, posts_of
 use Rattle.ccr_model.specs.Rules.{refusal_of_post, is_post, is_script_line, is_play_post, has_budget}
 use Rattle.ccr_model.specs.Legal.{IsAllowed, IsLegal}
 use Rattle.ccr_model.proofs.PostNames.{along, refused_not}
-use Rattle.ccr_model.proofs.Pushes.{posts-push}
+use Rattle.ccr_model.proofs.OneMoreEvent.{posts-push}
 use Rattle.ccr_base.proofs.Options.{some_of, some_then, some-below}
 use Rattle.ccr_base.proofs.Booleans.{both, eq-self}
 

@@ -1,6 +1,6 @@
 -- Each posted message has exactly one fate.
-use Rattle.std.proofs.Common.{◌≡◌, suc, inl, inr, Bool, true, false, not, List, [], ◌∷◌, ◌++◌, filter, Option, Some, None, refl, sym, ap, ◌∙◌, arith, subst}
-use Rattle.std.specs.Prelude.{◌==◌, if◌then◌else◌, find, Contains}
+use Rattle.std.proofs.Common.{◌≡◌, inl, inr, Bool, true, false, not, List, [], ◌∷◌, ◌++◌, filter, Option, Some, None, refl, sym, ap, ◌∙◌, arith, subst}
+use Rattle.std.specs.Prelude.{◌==◌, if◌then◌else◌, find}
 use Rattle.std.specs.Option.{option_map, option_map_or}
 use Rattle.std.proofs.lemmas.Grind.{common_steps}
 use Rattle.ccr_base.specs.declared.names.MsgId.{MsgId}
@@ -19,7 +19,7 @@ use Rattle.ccr_model.specs.Fates.{state_of, fate_of, fate}
 use Rattle.ccr_model.specs.Legal.{IsLegal}
 use Rattle.ccr_model.proofs.Stable.{firings-append}
 use Rattle.ccr_model.proofs.Allowing.{OneName-legal}
-use Rattle.ccr_model.proofs.Members.{Among, Among-right}
+use Rattle.ccr_model.proofs.Members.{Among, Among-right, Contains-among}
 use Rattle.ccr_model.proofs.SameNames.{same_message-self}
 use Rattle.ccr_base.proofs.Booleans.{neither, eq-self}
 use Rattle.ccr_laws.specs.Occurring.{Occurs}
@@ -131,11 +131,6 @@ Among-filter p (x ∷ ms) m (inr more) passes = of_test (p x) (Among-filter p ms
     of_test : (b : Bool) → Among m (filter p ms) → Among m (if b then x ∷ filter p ms else filter p ms)
     of_test true rest = inr rest
     of_test false rest = rest
-
-Contains-among : (ms : List Msg) (m : Msg) → Among m ms → Contains ms m
-Contains-among [] m among = absurd among
-Contains-among (x ∷ ms) m (inl same) = (0, omega arith, sym same)
-Contains-among (x ∷ ms) m (inr more) = let rest = Contains-among ms m more in (suc rest.0, omega (arith, rest.1), rest.2)
 
 held_by_untaken : (h past : List Event) (m : Msg) → Occurs h past (Post m) → has_message (taken h) m.id ≡ false → IsHeld h m.id
 held_by_untaken h past m stands out =

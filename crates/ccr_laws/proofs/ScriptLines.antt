@@ -17,14 +17,14 @@ use Rattle.ccr_wiring.specs.declared.parts.Parts.{Parts}
 use Rattle.ccr_wiring.specs.declared.parts.PosterPart.{PosterPart}
 use Rattle.ccr_model.specs.declared.history.Event.{Event}
 use Rattle.ccr_model.specs.declared.history.Event.TheVariants.{Post, Fire, Admit, Put, Start, End}
-use Rattle.ccr_model.specs.Posts.{posts, post_of, posts_of_poster, is_script_of}
+use Rattle.ccr_model.specs.Posts.{post_of, posts_of_poster, is_script_of}
 use Rattle.ccr_model.specs.Rules.{is_post, is_script_line, refusal_of_post}
 use Rattle.ccr_model.specs.Legal.{IsAllowed, IsLegal, is_complete, are_whole_from}
 use Rattle.ccr_base.proofs.Booleans.{both, same_number}
 use Rattle.ccr_model.proofs.ListParts.{take_more}
 use Rattle.ccr_base.proofs.Options.{some_of}
 use Rattle.ccr_model.proofs.PostNames.{along, refused_not}
-use Rattle.ccr_model.proofs.Pushes.{posts-push}
+use Rattle.ccr_model.proofs.OneMoreEvent.{posts-push}
 use Rattle.ccr_laws.specs.Scripts.{posts_by, sent_of, FollowsScript}
 
 pub same_causes : (xs ys : List ℕ) → same_lists (λ c d. c == d) xs ys ≡ true → xs ≡ ys

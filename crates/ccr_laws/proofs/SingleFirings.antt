@@ -27,7 +27,7 @@ use Rattle.ccr_model.specs.Live.{is_live, is_live_in, is_none_of}
 use Rattle.ccr_model.specs.Legal.{IsAllowed, IsLegal}
 use Rattle.ccr_model.proofs.PostNames.{along}
 use Rattle.ccr_model.proofs.TakenOnce.{FireFacts-allowed}
-use Rattle.ccr_model.proofs.Pushes.{firings-push}
+use Rattle.ccr_model.proofs.OneMoreEvent.{firings-push}
 use Rattle.ccr_base.proofs.Booleans.{both, same_number}
 use Rattle.ccr_laws.specs.Times.{times_fired, times_any_fired, times_torn_down}
 use Rattle.ccr_model.proofs.AllowedFirings.{BranchFacts-where, live_at, firings-other}

@@ -24,7 +24,7 @@ use Rattle.ccr_model.proofs.SameNames.{same_task-is, same_task-self, same_task-s
 use Rattle.ccr_base.proofs.Booleans.{neither, refuted, no_both, eq-self}
 use Rattle.ccr_model.specs.Interleaves.{is_placement_in}
 use Rattle.ccr_laws.specs.OneFate.{Waits, IsQueued, HasEnded, IsIn}
-use Rattle.ccr_laws.proofs.Allowed.{allowed_at}
+use Rattle.ccr_laws.proofs.LegalEventsWereAllowed.{allowed_at}
 use Rattle.ccr_model.proofs.TaskLists.{to_filter, to_without, among_left, not_more, not_within}
 use Rattle.ccr_model.proofs.TaskPlaces.{ArePlaced-legal, QueuedFacts-queued, PutFacts-may}
 use Rattle.ccr_model.proofs.AllowedFirings.{WaitingFacts-waiting, waits_whole, waits_outside, fired_by_has}

@@ -31,7 +31,7 @@ use Rattle.ccr_model.proofs.SameNames.{same_message-is}
 use Rattle.ccr_base.proofs.Booleans.{both}
 use Rattle.ccr_laws.specs.Occurring.{Occurs}
 use Rattle.ccr_laws.specs.WholePattern.{AreFirst, FillsSlot, FillsSlots, FillsGather, FillsPattern, IsOldest, TakesWhole}
-use Rattle.ccr_laws.proofs.Allowed.{allowed_at}
+use Rattle.ccr_laws.proofs.LegalEventsWereAllowed.{allowed_at}
 
 -- what is taken of those that fit
 taken_slot : (past : List Event) (slot : Slot) → IsSlotFilled slot → is_choosable slot (held past slot.port) ≡ true → FillsSlot past slot (take slot.most (fitting slot.pred (held past slot.port)))

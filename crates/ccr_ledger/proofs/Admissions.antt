@@ -21,7 +21,7 @@ use Rattle.ccr_model.specs.Tasks.{is_over, running}
 use Rattle.ccr_model.specs.Rules.{is_play_post, has_budget, refused}
 use Rattle.ccr_model.specs.Legal.{IsAllowed, IsLegal}
 use Rattle.ccr_model.proofs.Allowing.{OneName-legal}
-use Rattle.ccr_model.proofs.Alone.{lasts_fired, ever_admitted_fired}
+use Rattle.ccr_model.proofs.ExclusiveRootsAreAlone.{lasts_fired, ever_admitted_fired}
 use Rattle.ccr_base.proofs.Booleans.{both, or_left, or_right, refuted, no_both}
 use Rattle.ccr_model.proofs.Cutting.{AdmitFacts-allowed, CutFacts-legal, waits_unput}
 use Rattle.ccr_model.proofs.Ending.{AreEnded-legal, RunningFacts-running}
@@ -29,7 +29,7 @@ use Rattle.ccr_model.proofs.FiredTasks.{IsFired, fired_has, root_stays}
 use Rattle.ccr_model.proofs.AllowedFirings.{WaitingFacts-waiting, BranchFacts-where, firings-other}
 use Rattle.ccr_model.proofs.LegalParts.{along_legal}
 use Rattle.ccr_model.proofs.PostNames.{refused_not}
-use Rattle.ccr_model.proofs.Pushes.{posts-push, last-push, ever_admitted-push, fired-fire}
+use Rattle.ccr_model.proofs.OneMoreEvent.{posts-push, last-push, ever_admitted-push, fired-fire}
 use Rattle.ccr_model.proofs.Roots.{root_own, IsOneEach-legal}
 use Rattle.ccr_model.proofs.SameNames.{same_task-is, same_task-self, same_task-sym}
 use Rattle.ccr_model.proofs.Suspending.{is_gone_on}

@@ -19,14 +19,14 @@ use Rattle.ccr_model.specs.Sites.{root_of}
 use Rattle.ccr_model.specs.Tasks.{is_concurrent, is_of_domain, is_over}
 use Rattle.ccr_model.specs.Rules.{is_concurrent_task}
 use Rattle.ccr_model.specs.Legal.{IsAllowed, IsLegal}
-use Rattle.ccr_model.proofs.Pushes.{ever_admitted-push}
+use Rattle.ccr_model.proofs.OneMoreEvent.{ever_admitted-push}
 use Rattle.ccr_model.proofs.SameNames.{same_task-self, same_task-sym}
 use Rattle.ccr_base.proofs.Booleans.{or_left}
 use Rattle.ccr_model.proofs.TasksLeft.{filter_on}
 use Rattle.ccr_model.proofs.FiredTasks.{IsFired, placement_stays}
 use Rattle.ccr_model.proofs.TaskPlaces.{ArePlaced-legal, PutFacts-allowed, new_drop}
 use Rattle.ccr_model.proofs.Ending.{RunningFacts-allowed}
-use Rattle.ccr_model.proofs.Alone.{ever_admitted_fired}
+use Rattle.ccr_model.proofs.ExclusiveRootsAreAlone.{ever_admitted_fired}
 use Rattle.ccr_model.proofs.Roots.{AreRooted-legal}
 use Rattle.ccr_ledger.specs.declared.cards.Card.{Card}
 use Rattle.ccr_ledger.specs.declared.cards.TaskStage.{TaskStage}

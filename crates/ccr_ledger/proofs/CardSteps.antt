@@ -7,6 +7,7 @@ use Rattle.ccr_base.specs.declared.names.MsgId.{MsgId}
 use Rattle.ccr_base.specs.declared.names.MsgId.TheVariants.{Script, Task}
 use Rattle.ccr_base.specs.declared.messages.Msg.{Msg}
 use Rattle.ccr_base.specs.Names.{same_task}
+use Rattle.ccr_base.proofs.Options.{map_map}
 use Rattle.ccr_wiring.specs.declared.parts.Parts.{Parts}
 use Rattle.ccr_wiring.specs.Wirings.{branch_of, segment_of, queue_of_spot}
 use Rattle.ccr_model.specs.declared.history.Event.{Event}
@@ -33,7 +34,7 @@ use Rattle.ccr_ledger.specs.Posting.{with_post, counted}
 use Rattle.ccr_ledger.specs.Events.{admit_root, not_admitted, after_last, after_discard, after_stop, after_yield, after_end, after_event}
 use Rattle.ccr_ledger.specs.Kept.{KeepsTasks, card_of, stage_of, is_admitted}
 use Rattle.ccr_ledger.proofs.Admissions.{admitted-other, admitted-last, admitted-admit, made-other, made-post}
-use Rattle.ccr_ledger.proofs.CardTables.{names, names-changed, on, card-on, map-map, card-twice, tasks-last}
+use Rattle.ccr_ledger.proofs.CardTables.{names, names-changed, on, card-on, card-twice, tasks-last}
 use Rattle.ccr_ledger.proofs.Stages.{stage-post, stage-start, stage-end, stage-admit, stage-put}
 
 -- what a task starts with stays what it is
@@ -201,7 +202,7 @@ puts_dropping w h t x b c fired_so legal allowed keeps are =
     (ap names are ∙ (names-changed (in_stage stages.Queued) t (changed not_admitted (root_of h x) (moved stages.Dropped x b.tasks)) ∙ (names-changed not_admitted (root_of h x) (moved stages.Dropped x b.tasks) ∙ names-changed (in_stage stages.Dropped) x b.tasks)))
     (λ u. ap (λ cards. card_at cards u) are
     ∙ (card-on (in_stage stages.Queued) (changed not_admitted (root_of h x) (moved stages.Dropped x b.tasks)) t u
-    ∙ (ap (option_map (on t (in_stage stages.Queued) u)) (card-twice not_admitted (in_stage stages.Dropped) b.tasks (root_of h x) x u) ∙ map-map (on t (in_stage stages.Queued) u) _ (card_at b.tasks u))))
+    ∙ (ap (option_map (on t (in_stage stages.Queued) u)) (card-twice not_admitted (in_stage stages.Dropped) b.tasks (root_of h x) x u) ∙ map_map (on t (in_stage stages.Queued) u) _ (card_at b.tasks u))))
     (λ u f named. (
     card-stays w h (Put t (Some x)) u f _ _ _ named (stage-put w h t (Some x) u f.spot legal allowed) (admitted-last w h legal (Put t (Some x)) x u refl refl fired_so) (made-other h (Put t (Some x)) u refl)
     ∙ (ap (λ d. altered (if same_task t u then stages.Queued else if d then stages.Dropped else stage_of w h u f.spot) (if same_task (root_of h x) u then false else is_admitted h u) (posts_of_task h u) (card_of w h u f)) (or-false (same_task u x) ∙ same_task-sym u x)

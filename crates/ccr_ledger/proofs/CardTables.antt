@@ -6,6 +6,7 @@ use Rattle.ccr_base.specs.declared.names.TaskId.{TaskId}
 use Rattle.ccr_base.specs.Names.{same_task, has_task}
 use Rattle.ccr_model.proofs.SameNames.{same_task-is, same_task-self, same_task-sym}
 use Rattle.ccr_base.proofs.Booleans.{neither}
+use Rattle.ccr_base.proofs.Options.{map_map}
 use Rattle.ccr_ledger.specs.declared.cards.Card.{Card}
 use Rattle.ccr_ledger.specs.declared.cards.TaskStage.{TaskStage}
 use Rattle.ccr_ledger.specs.declared.cards.TaskStage.TheVariants as stages
@@ -59,13 +60,8 @@ card-on change cards t u = card-changed change cards t u ∙ of_test (same_task 
     of_test false None = refl
     of_test false (Some c) = refl
 
--- one change behind the other
-pub map-map : (f g : Card → Card) (o : Option Card) → option_map f (option_map g o) ≡ option_map (λ (card : Card). f (g card)) o
-map-map f g None = refl
-map-map f g (Some c) = refl
-
 pub card-twice : (f g : Card → Card) (cards : List (TaskId × Card)) (t s u : TaskId) → card_at (changed f t (changed g s cards)) u ≡ option_map (λ (card : Card). on t f u (on s g u card)) (card_at cards u)
-card-twice f g cards t s u = card-on f (changed g s cards) t u ∙ (ap (option_map (on t f u)) (card-on g cards s u) ∙ map-map (on t f u) (on s g u) (card_at cards u))
+card-twice f g cards t s u = card-on f (changed g s cards) t u ∙ (ap (option_map (on t f u)) (card-on g cards s u) ∙ map_map (on t f u) (on s g u) (card_at cards u))
 
 -- the card, in the stage where the task is one of these
 abbrev pub among : List TaskId → TaskStage → TaskId → Card → Card

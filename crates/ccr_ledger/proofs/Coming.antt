@@ -37,7 +37,7 @@ use Rattle.ccr_ledger.specs.Firing.{without_coming, cut_card, after_cut, after_c
 use Rattle.ccr_ledger.specs.Events.{after_last, after_discard, after_drop, after_dropped, after_enter, after_start, after_stop, after_yield, after_end, after_event, is_yield}
 use Rattle.ccr_ledger.specs.Kept.{HasSizes, KeepsTasks}
 use Rattle.ccr_ledger.proofs.Counting.{more_if, less_if, number-more, number-less, left-less, left-more}
-use Rattle.ccr_ledger.proofs.Gone.{gone, gone_fired, not_gone, queued_here, gone-other, gone-fire, gone-start, gone-drop}
+use Rattle.ccr_ledger.proofs.GoneFromQueues.{gone, gone_fired, not_gone, queued_here, gone-other, gone-fire, gone-start, gone-drop}
 use Rattle.ccr_ledger.proofs.TaskCards.{CardFacts, CardFacts-fired, card_moved}
 use Rattle.ccr_ledger.proofs.FiredOnce.{fired_where-fire, fired_once}
 use Rattle.ccr_ledger.proofs.FiredBy.{fired_by-is, branch-is}

@@ -7,7 +7,7 @@ use Rattle.ccr_model.specs.Firings.{ever_admitted}
 use Rattle.ccr_model.specs.Tasks.{is_of_domain, is_over, admitted}
 use Rattle.ccr_model.specs.Rules.{is_concurrent_task}
 use Rattle.ccr_model.specs.Legal.{IsAllowed, IsLegal}
-use Rattle.ccr_model.proofs.Covered.{filter_twice}
+use Rattle.ccr_model.proofs.LegalIsCovered.{filter_twice}
 use Rattle.ccr_model.proofs.TasksLeft.{filter_on}
 use Rattle.ccr_ledger.specs.Books.{Books}
 use Rattle.ccr_ledger.specs.Events.{after_event, empty_books}

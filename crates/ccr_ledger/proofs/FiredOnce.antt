@@ -17,7 +17,7 @@ use Rattle.ccr_model.proofs.Cutting.{cut_by}
 use Rattle.ccr_model.proofs.FiredTasks.{AreFired, IsFired-append}
 use Rattle.ccr_model.proofs.AllowedFirings.{FiresSo-allowed, firings-other}
 use Rattle.ccr_model.proofs.LegalParts.{along_legal}
-use Rattle.ccr_model.proofs.Pushes.{firings-push, cut-push}
+use Rattle.ccr_model.proofs.OneMoreEvent.{firings-push, cut-push}
 use Rattle.ccr_model.proofs.TasksLeft.{distinct-push}
 use Rattle.ccr_model.proofs.TaskLists.{of_more}
 use Rattle.ccr_model.proofs.TasksOnce.{some_of_all}

@@ -1,7 +1,6 @@
 -- Each event keeps what the flags say of who fired.
-use Rattle.std.proofs.Common.{◌≡◌, ℕ, zero, suc, ◌<◌, ◌≤◌, Bool, true, false, not, ◌&&◌, List, [], ◌∷◌, ◌++◌, length, map, filter, Option, Some, None, refl, sym, ap, ◌∙◌, arith}
+use Rattle.std.proofs.Common.{◌≡◌, ℕ, ◌<◌, Bool, true, false, not, ◌&&◌, List, [], ◌∷◌, ◌++◌, length, map, filter, Option, Some, None, refl, sym, ap, ◌∙◌, arith}
 use Rattle.std.specs.Prelude.{◌==◌, if◌then◌else◌}
-use Rattle.std.specs.List.{slice_get}
 use Rattle.std.specs.Option.{option_map_or}
 use Rattle.std.proofs.lemmas.Bool.Decides.{nat_tests}
 use Rattle.ccr_base.specs.declared.names.TaskId.{TaskId}
@@ -19,7 +18,8 @@ use Rattle.ccr_model.specs.Firings.{Firing, firings, firing_of}
 use Rattle.ccr_model.specs.Tasks.{is_teardown, is_branch_where}
 use Rattle.ccr_model.specs.Live.{is_none_of}
 use Rattle.ccr_base.proofs.Booleans.{same_number}
-use Rattle.ccr_model.proofs.Pushes.{firings-push}
+use Rattle.ccr_base.proofs.Options.{none-above}
+use Rattle.ccr_model.proofs.OneMoreEvent.{firings-push}
 use Rattle.ccr_model.proofs.AllowedFirings.{firings-other}
 use Rattle.ccr_ledger.specs.declared.cards.Card.{Card}
 use Rattle.ccr_ledger.specs.Books.{Books, card_at, flag, raised}
@@ -122,11 +122,6 @@ flags-branch w h t n ms cs b c s at same sizes keeps = record {
   torn = λ i low. ap (λ (fs : Flags). flag (if is_teardown s.branch.group then raised s.domain fs.torn else fs.torn) i) same ∙ (torn-set b.torn s.domain i (is_teardown s.branch.group) _ (omega (arith, low, sizes.torn)) (keeps.torn i low) ∙ sym (fired_more h t (Branch n) ms cs (λ (f : Firing). is_branch_where w (λ z. (z.domain == i) && is_teardown z.branch.group) f.spot) ∙ rw at refl));
 }
 
-none_past : (ss : List Placement) (n : ℕ) → slice_get ss n ≡ None → length ss ≤ n
-none_past [] n none = omega arith
-none_past (s ∷ ss) zero none = absurd (cc)
-none_past (s ∷ ss) (suc n) none = omega (arith, none_past ss n none)
-
 -- a firing of no branch of the wiring
 flags-nowhere : (w : Parts) (h : List Event) (t : TaskId) (n : ℕ) (ms : List MsgId) (cs : List TaskId) (b : Books) → placement w n ≡ None → KeepsFlags w h b → KeepsFlags w (h ++ Fire t (Branch n) ms cs ∷ []) b
 flags-nowhere w h t n ms cs b none keeps = record {
@@ -137,7 +132,7 @@ flags-nowhere w h t n ms cs b none keeps = record {
   where
     of_test : (m : ℕ) → m < length (placements w) → (is : Bool) → (n == m) ≡ is → (was : Bool) → was ≡ (if is then true else was)
     of_test m low false is was = refl
-    of_test m low true is was = absurd (omega (arith, low, none_past (placements w) n none, same_number n m is))
+    of_test m low true is was = absurd (omega (arith, low, none-above (placements w) n none, same_number n m is))
 
 -- a firing at a site
 flags-site : (w : Parts) (h : List Event) (t : TaskId) (n k : ℕ) (ms : List MsgId) (cs : List TaskId) (b c : Books) → flags_of c ≡ flags_of b → KeepsFlags w h b → KeepsFlags w (h ++ Fire t (Site n k) ms cs ∷ []) c

@@ -14,10 +14,11 @@ use Rattle.ccr_base.specs.declared.names.MsgId.{MsgId}
 use Rattle.ccr_base.specs.declared.messages.Msg.{Msg}
 use Rattle.ccr_base.specs.declared.patterns.Pred.{Pred}
 use Rattle.ccr_base.specs.Choice.{holds, fitting}
-use Rattle.ccr_ledger.specs.Lanes.{Indices, present, is_here, fits, fitting_indices, name_at, names_at, entered, entered_item, lost, IsLane, AreLanes, HasLane, HasFront}
+use Rattle.ccr_ledger.specs.Lanes.{Indices, present, is_here, fits, fitting_indices, name_at, names_at, entered, entered_item, lost, IsLane, AreLanes, HasLane, HasPrefix}
 use Rattle.ccr_ledger.specs.Taken.{without_first}
 use Rattle.std.proofs.lemmas.Bool.{and_parts as both, ltb-true}
 use Rattle.ccr_base.proofs.Booleans.{and_false}
+use Rattle.ccr_base.proofs.Options.{none-above}
 
 -- ---- one index more
 
@@ -93,11 +94,6 @@ posted items m (lane ∷ lanes) are = (lane-posted items m lane are.0, posted it
 
 -- ---- a lane that is tidy up to an index
 
-none-long : (ks : List ℕ) (n : ℕ) → slice_get ks n ≡ None → length ks ≤ n
-none-long [] n at = omega arith
-none-long (k ∷ ks) zero at = absurd (cc)
-none-long (k ∷ ks) (suc n) at = omega (arith, none-long ks n at)
-
 pub take-one : (ks : List ℕ) (n k : ℕ) → slice_get ks n ≡ Some k → take (n + 1) ks ≡ take n ks ++ k ∷ []
 take-one [] n k at = absurd (cc)
 take-one (j ∷ ks) zero k at = let same : j ≡ k = cc in rw same refl
@@ -129,7 +125,7 @@ module _ (items : List (Option Msg)) (lane : Indices) (n : ℕ) (is : IsLane ite
 
   pub tidy-all : (most : ℕ) → slice_get lane.indices n ≡ None → take most lane.indices ≡ take most (fitting_indices 0 lane.pred items)
   tidy-all most at =
-      let all = take_all n lane.indices (none-long lane.indices n at) in
+      let all = take_all n lane.indices (none-above lane.indices n at) in
       let here : filter (is_here items) lane.indices ≡ lane.indices = rw all at tidy.here in
       rw (← is.whole, here) refl
 
@@ -315,14 +311,6 @@ none_taken pred items at = none_found 0 pred items at
 pub found_in : (pred : Pred) (now items : List (Option Msg)) (found o : Option ℕ) → now ≡ items → found ≡ slice_get (fitting_indices 0 pred now) 0 → found ≡ o → slice_get (fitting_indices 0 pred items) 0 ≡ o
 found_in pred now items found o same index is = rw (← same, ← index) is
 
--- the last of the lanes
-pub last_lane : (lanes now : List Indices) (n : ℕ) (lane : Indices) → n ≡ length lanes → now ≡ lanes ++ lane ∷ [] → slice_get now n ≡ Some lane
-last_lane lanes now n lane last grown = rw (grown, last) (at_end lanes)
-  where
-    at_end : (ls : List Indices) → slice_get (ls ++ lane ∷ []) (length ls) ≡ Some lane
-    at_end [] = refl
-    at_end (l ∷ ls) = at_end ls
-
 -- the lane that was looked at isn't of the predicate, so one that is stands behind it
 pub passed_over : (lanes : List Indices) (n k : ℕ) (here : Indices) (pred : Pred) (b : Bool) → here ≡ get_or lanes n here → Decides b (here.pred ≡ pred) → b ≡ false → n ≤ k → HasLane lanes k pred → n + 1 ≤ k
 passed_over lanes n k here pred b read decides other low has = of_test (n == k) refl
@@ -380,7 +368,7 @@ count-told items now lanes n lane pred same are found read =
     rw this (here.counted ∙ rw found.2 (length-fitting 0 pred items))
 
 -- the front of the lane that stands at a number
-pub front-told : (lanes : List Indices) (n most : ℕ) (lane : Indices) (front : List ℕ) → HasFront lanes n front most → lane ≡ get_or lanes n lane → take most lane.indices ≡ front
+pub front-told : (lanes : List Indices) (n most : ℕ) (lane : Indices) (front : List ℕ) → HasPrefix lanes n front most → lane ≡ get_or lanes n lane → take most lane.indices ≡ front
 front-told lanes n most lane front found read =
     let this : lane ≡ found.0 = read ∙ get_or_from_slice_get lanes n found.0 lane found.1 in
     rw this found.2

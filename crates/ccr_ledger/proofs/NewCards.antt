@@ -20,11 +20,11 @@ use Rattle.ccr_model.specs.TaskData.{no_load, no_play, with_messages, messages_o
 use Rattle.ccr_model.specs.Tasks.{is_interleave}
 use Rattle.ccr_model.specs.Rules.{needs_no_admission}
 use Rattle.ccr_model.specs.Legal.{IsAllowed, IsLegal}
-use Rattle.ccr_model.proofs.Alone.{ever_admitted_fired}
+use Rattle.ccr_model.proofs.ExclusiveRootsAreAlone.{ever_admitted_fired}
 use Rattle.ccr_base.proofs.Booleans.{refuted, no_both}
 use Rattle.ccr_model.proofs.FiredTasks.{AreFired, fired_has}
 use Rattle.ccr_model.proofs.AllowedFirings.{FiresSo-allowed, firing_named-new, before-new}
-use Rattle.ccr_model.proofs.Pushes.{fired-fire}
+use Rattle.ccr_model.proofs.OneMoreEvent.{fired-fire}
 use Rattle.ccr_model.proofs.Roots.{root_own, root_resumed}
 use Rattle.ccr_model.proofs.SameNames.{same_task-is}
 use Rattle.ccr_model.proofs.Stable.{load_at-append}

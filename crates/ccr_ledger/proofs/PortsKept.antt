@@ -33,7 +33,7 @@ use Rattle.ccr_ledger.specs.Firing.{after_fire, resumed_card}
 use Rattle.ccr_ledger.specs.Events.{after_last, after_discard, after_dropped, after_stop, after_yield, after_end, after_event, empty_books, is_yield}
 use Rattle.ccr_ledger.specs.Kept.{HasSizes, Keeps, KeepsPorts, card_of}
 use Rattle.ccr_ledger.proofs.Tables.{row-with_row}
-use Rattle.ccr_ledger.proofs.Fresh.{fresh_post, held_alone}
+use Rattle.ccr_ledger.proofs.NewNames.{fresh_post, held_alone}
 use Rattle.ccr_ledger.proofs.PortsLeft.{AreHeld, pattern_left, site_left}
 use Rattle.ccr_ledger.proofs.Empty.{row-none}
 use Rattle.ccr_ledger.proofs.CardTables.{ports-cuts}

@@ -9,7 +9,7 @@ use Rattle.ccr_base.specs.declared.patterns.Pattern.{Pattern}
 use Rattle.ccr_base.specs.declared.patterns.Pattern.TheVariants.{Slots, Gather}
 use Rattle.ccr_base.specs.Choice.{holds, fitting, choice}
 use Rattle.ccr_base.specs.Names.{same_message, same_lists}
-use Rattle.ccr_wiring.specs.Repeats.{has_port, are_apart, slot_ports, names_ports_once}
+use Rattle.ccr_wiring.specs.Repeats.{slot_ports, names_ports_once}
 use Rattle.ccr_wiring.specs.Spots.{pattern_ports}
 use Rattle.ccr_ledger.specs.Rows.{row, with_row}
 use Rattle.ccr_ledger.specs.Taken.{without_some, shared}
@@ -19,6 +19,7 @@ use Rattle.ccr_model.proofs.TakenOnce.{joined_some, choice_some, times-filter, t
 use Rattle.ccr_model.proofs.FirstNames.{names_of-append, same_names}
 use Rattle.ccr_base.proofs.Options.{some_of}
 use Rattle.ccr_base.proofs.Booleans.{both, neither, not_true, same_number, eq_turned}
+use Rattle.ccr_base.specs.Lists.{has_number, are_apart}
 use Rattle.ccr_ledger.specs.Taking.{take_slot, take_slots, take_oldest, take_gather, take_pattern}
 use Rattle.ccr_ledger.proofs.Tables.{length-with_row, row-with_row}
 use Rattle.ccr_ledger.proofs.Fitting.{left_by, none_left, left_both, times-left, apart_left, some-named, oldest-named, first-names, split-names}
@@ -68,10 +69,10 @@ module _ (ports : List (List Msg)) (held_at : ℕ → List Msg) (are : AreHeld p
   slot_left = are_left ports held_at are slot.port chosen (without_some slot.most slot.pred) few_chosen named_chosen
 
   -- slots of other ports choose as before
-  choice_kept : (slots : List Slot) → has_port (slot_ports slots) slot.port ≡ false → choice_of_slots (λ p. left_by (names_of chosen) (held_at p)) slots ≡ choice_of_slots held_at slots
+  choice_kept : (slots : List Slot) → has_number (slot_ports slots) slot.port ≡ false → choice_of_slots (λ p. left_by (names_of chosen) (held_at p)) slots ≡ choice_of_slots held_at slots
   choice_kept [] out = refl
   choice_kept (other ∷ slots) out =
-      let parts = neither (other.port == slot.port) (has_port (slot_ports slots) slot.port) out in
+      let parts = neither (other.port == slot.port) (has_number (slot_ports slots) slot.port) out in
       let kept = other_kept ports held_at are slot.port chosen (without_some slot.most slot.pred) few_chosen named_chosen other.port (eq_turned other.port slot.port parts.0) in
       rw (kept, choice_kept slots parts.1) refl
 
@@ -81,8 +82,8 @@ slots_left : (slots : List Slot) (ports : List (List Msg)) (held_at : ℕ → Li
 slots_left [] ports held_at ms are once is p low = let none : ms ≡ [] = cc in rw none (are.told p low ∙ sym (none_left (held_at p)))
 slots_left (slot ∷ slots) ports held_at ms are once is p low =
     let parts = joined_some (choice slot (held_at slot.port)) (choice_of_slots held_at slots) ms is in
-    let ports_apart = both (not (has_port (slot_ports slots) slot.port)) (are_apart (slot_ports slots)) once in
-    let out = not_true (has_port (slot_ports slots) slot.port) ports_apart.0 in
+    let ports_apart = both (not (has_number (slot_ports slots) slot.port)) (are_apart (slot_ports slots)) once in
+    let out = not_true (has_number (slot_ports slots) slot.port) ports_apart.0 in
     let front = names_of (chosen ports held_at are slot) in
     let rest = slots_left slots (take_slot slot ports).ports (λ q. left_by front (held_at q)) parts.1 (slot_left ports held_at are slot) ports_apart.1 (choice_kept ports held_at are slot slots out ∙ parts.3) p (rw length-with_row low) in
     let names : names_of ms ≡ front ++ names_of parts.1 = ap names_of (sym parts.4) ∙ (names_of-append parts.0 parts.1 ∙ ap (λ ms. names_of ms ++ names_of parts.1) (choice_some slot (held_at slot.port) parts.0 parts.2)) in

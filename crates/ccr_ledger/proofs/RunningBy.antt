@@ -13,7 +13,7 @@ use Rattle.ccr_model.specs.Firings.{ended, ended_by}
 use Rattle.ccr_model.specs.Tasks.{running_by, started_as}
 use Rattle.ccr_model.specs.Legal.{IsAllowed, IsLegal}
 use Rattle.ccr_base.proofs.Filters.{filter_swap}
-use Rattle.ccr_model.proofs.Pushes.{ended-push}
+use Rattle.ccr_model.proofs.OneMoreEvent.{ended-push}
 use Rattle.ccr_model.proofs.TasksLeft.{without_both}
 use Rattle.ccr_model.proofs.TaskLists.{without-append}
 use Rattle.ccr_model.proofs.TaskPlaces.{ArePlaced-legal, StartFacts-allowed}

@@ -15,7 +15,7 @@ use Rattle.ccr_model.specs.declared.history.Event.TheVariants.{Post, Fire, Admit
 use Rattle.ccr_model.specs.declared.history.EndHow.{EndHow}
 use Rattle.ccr_model.specs.Posts.{posts, post_of, is_script_of, is_task_message, posts_of_poster}
 use Rattle.ccr_base.proofs.Booleans.{same_number}
-use Rattle.ccr_model.proofs.Pushes.{posts-push}
+use Rattle.ccr_model.proofs.OneMoreEvent.{posts-push}
 use Rattle.ccr_ledger.specs.declared.cards.Card.{Card}
 use Rattle.ccr_ledger.specs.Books.{Books, card_at, number}
 use Rattle.ccr_ledger.specs.Posting.{counted}

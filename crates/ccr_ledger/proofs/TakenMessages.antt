@@ -12,7 +12,7 @@ use Rattle.ccr_base.specs.declared.names.Spot.TheVariants.{Branch, Site}
 use Rattle.ccr_base.specs.Choice.{holds, fitting, choice}
 use Rattle.ccr_base.specs.Names.{same_message, has_message, same_lists}
 use Rattle.ccr_wiring.specs.declared.parts.Parts.{Parts}
-use Rattle.ccr_wiring.specs.Valid.{IsValid, has_port, are_apart, slot_ports}
+use Rattle.ccr_wiring.specs.Valid.{IsValid, slot_ports}
 use Rattle.ccr_wiring.specs.Wirings.{Placement, placement, site_port}
 use Rattle.ccr_wiring.proofs.Soundness.{sound}
 use Rattle.ccr_model.specs.declared.history.Event.{Event}
@@ -20,8 +20,9 @@ use Rattle.ccr_model.specs.Posts.{posts, taken, held, messages_named}
 use Rattle.ccr_model.specs.Choice.{names_of, choice_of_slots, are_first, are_split, are_oldest, is_choice_of, is_choice}
 use Rattle.ccr_model.specs.Legal.{IsLegal}
 use Rattle.ccr_base.proofs.Booleans.{both, neither, either, not_true, same_number}
-use Rattle.ccr_model.proofs.Members.{Among, Among-either}
+use Rattle.ccr_model.proofs.Members.{Among, Among-either, Among-kept, Among-take}
 use Rattle.ccr_base.proofs.Options.{some_of}
+use Rattle.ccr_base.specs.Lists.{has_number, are_apart}
 use Rattle.ccr_model.proofs.PostNames.{times, posted_once}
 use Rattle.ccr_model.proofs.SameNames.{same_message-is}
 use Rattle.ccr_model.proofs.TakenOnce.{joined_some, choice_some, times-filter, times-two}
@@ -37,21 +38,6 @@ named-found : (all ms : List Msg) → ((name : MsgId) → times name all ≤ 1) 
 named-found all [] once within = refl
 named-found all (m ∷ ms) once within = rw (found_once all m (within m (inl refl)) (once m.id)) (ap (λ (rest : List Msg). m ∷ rest) (named-found all ms once (λ x is. within x (inr is))))
 
-among-kept : (p : Msg → Bool) (ms : List Msg) (m : Msg) → Among m (filter p ms) → Among m ms
-among-kept p [] m among = among
-among-kept p (x ∷ ms) m among = of_test (p x) among (among-kept p ms m)
-  where
-    of_test : (b : Bool) → Among m (if b then x ∷ filter p ms else filter p ms) → (Among m (filter p ms) → Among m ms) → Among m (x ∷ ms)
-    of_test true (inl same) rest = inl same
-    of_test true (inr more) rest = inr (rest more)
-    of_test false more rest = inr (rest more)
-
-among-take : (n : ℕ) (ms : List Msg) (m : Msg) → Among m (take n ms) → Among m ms
-among-take zero ms m among = absurd among
-among-take (suc n) [] m among = absurd among
-among-take (suc n) (x ∷ ms) m (inl same) = inl same
-among-take (suc n) (x ∷ ms) m (inr more) = inr (among-take n ms m more)
-
 -- a write to one row leaves the others
 row-other : (rows : List (List Msg)) (n k : ℕ) (items : List Msg) → (n == k) ≡ false → row (with_row rows n items) k ≡ row rows k
 row-other [] n k items other = refl
@@ -61,10 +47,10 @@ row-other (r ∷ rows) (suc n) zero items other = refl
 row-other (r ∷ rows) (suc n) (suc k) items other = row-other rows n k items (grind (arith, nat_tests, other))
 
 -- a port that stands there isn't one that doesn't
-apart_at : (ports : List ℕ) (index port other : ℕ) → slice_get ports index ≡ Some port → has_port ports other ≡ false → (other == port) ≡ false
+apart_at : (ports : List ℕ) (index port other : ℕ) → slice_get ports index ≡ Some port → has_number ports other ≡ false → (other == port) ≡ false
 apart_at [] index port other is out = absurd (cc)
-apart_at (p ∷ ports) zero port other is out = let same : p ≡ port = cc in let parts = neither (p == other) (has_port ports other) out in grind (arith, nat_tests, same, parts.0)
-apart_at (p ∷ ports) (suc index) port other is out = apart_at ports index port other is (neither (p == other) (has_port ports other) out).1
+apart_at (p ∷ ports) zero port other is out = let same : p ≡ port = cc in let parts = neither (p == other) (has_number ports other) out in grind (arith, nat_tests, same, parts.0)
+apart_at (p ∷ ports) (suc index) port other is out = apart_at ports index port other is (neither (p == other) (has_number ports other) out).1
 
 -- slots of different ports take their choice
 slots-take : (slots : List Slot) (ports : List (List Msg)) (held_at : ℕ → List Msg) (xs : List Msg) → ((index port : ℕ) → slice_get (slot_ports slots) index ≡ Some port → row ports port ≡ held_at port)
@@ -72,8 +58,8 @@ slots-take : (slots : List Slot) (ports : List (List Msg)) (held_at : ℕ → Li
 slots-take [] ports held_at xs told once is = cc
 slots-take (slot ∷ slots) ports held_at xs told once is =
     let parts = joined_some (choice slot (held_at slot.port)) (choice_of_slots held_at slots) xs is in
-    let apart = both (not (has_port (slot_ports slots) slot.port)) (are_apart (slot_ports slots)) once in
-    let out = not_true (has_port (slot_ports slots) slot.port) apart.0 in
+    let apart = both (not (has_number (slot_ports slots) slot.port)) (are_apart (slot_ports slots)) once in
+    let out = not_true (has_number (slot_ports slots) slot.port) apart.0 in
     let front : take slot.most (fitting slot.pred (row ports slot.port)) ≡ parts.0 = ap (λ ms. take slot.most (fitting slot.pred ms)) (told 0 slot.port refl) ∙ sym (choice_some slot (held_at slot.port) parts.0 parts.2) in
     let back = slots-take slots (take_slot slot ports).ports held_at parts.1 (λ index port at. row-other ports slot.port port _ (apart_at (slot_ports slots) index port slot.port at out) ∙ told (suc index) port at) apart.1 parts.3 in
     ap (λ ms. ms ++ (take_slots slots (take_slot slot ports).ports).messages) front ∙ (ap (λ ms. parts.0 ++ ms) back ∙ parts.4)
@@ -84,7 +70,7 @@ choice-within [] held_at all xs within is m among = let none : xs ≡ [] = cc in
 choice-within (slot ∷ slots) held_at all xs within is m among =
     let parts = joined_some (choice slot (held_at slot.port)) (choice_of_slots held_at slots) xs is in
     elim (Among-either m parts.0 parts.1 (subst (λ ms. Among m ms) (sym parts.4) among)) [
-      | inl here ↦ within slot.port m (among-kept (λ (o : Msg). holds slot.pred o.value) (held_at slot.port) m (among-take slot.most (fitting slot.pred (held_at slot.port)) m (subst (λ ms. Among m ms) (choice_some slot (held_at slot.port) parts.0 parts.2) here)))
+      | inl here ↦ within slot.port m (Among-kept (λ (o : Msg). holds slot.pred o.value) (held_at slot.port) m (Among-take slot.most (fitting slot.pred (held_at slot.port)) m (subst (λ ms. Among m ms) (choice_some slot (held_at slot.port) parts.0 parts.2) here)))
       | inr there ↦ choice-within slots held_at all parts.1 within parts.3 m there
     ]
 
@@ -138,7 +124,7 @@ same_messages-is (x ∷ xs) (y ∷ ys) is = let parts = both (same_message x y) 
 
 module _ (w : Parts) (valid : IsValid w) (h : List Event) (legal : IsLegal w h) (b : Books) (sizes : HasSizes w b) (ports : KeepsPorts w h b) where
   held-posted : (port : ℕ) (m : Msg) → Among m (held h port) → Among m (posts h)
-  held-posted port m among = among-kept (λ (o : Msg). o.port == port) (posts h) m (among-kept (λ (o : Msg). not (has_message (taken h) o.id)) _ m among)
+  held-posted port m among = Among-kept (λ (o : Msg). o.port == port) (posts h) m (Among-kept (λ (o : Msg). not (has_message (taken h) o.id)) _ m among)
 
   -- posted messages of these names are the ones that are found by them
   found : (ms : List Msg) (names : List MsgId) → names_of ms ≡ names → ((m : Msg) → Among m ms → Among m (posts h)) → ms ≡ messages_named h names
@@ -166,8 +152,8 @@ module _ (w : Parts) (valid : IsValid w) (h : List Event) (legal : IsLegal w h) 
     where
       within : (m : Msg) → Among m (take (shared (held h first) names) (held h first) ++ take (length names - shared (held h first) names) (held h second)) → Among m (posts h)
       within m among = elim (Among-either m (take (shared (held h first) names) (held h first)) _ among) [
-        | inl here ↦ held-posted first m (among-take (shared (held h first) names) (held h first) m here)
-        | inr there ↦ held-posted second m (among-take (length names - shared (held h first) names) (held h second) m there)
+        | inl here ↦ held-posted first m (Among-take (shared (held h first) names) (held h first) m here)
+        | inr there ↦ held-posted second m (Among-take (length names - shared (held h first) names) (held h second) m there)
       ]
 
   of_pattern : (p : Pattern) (n : ℕ) (s : Placement) (names : List MsgId) → placement w n ≡ Some s → s.branch.pattern ≡ p → is_choice_of (held h) p names ≡ true → (take_pattern p names b.ports).messages ≡ messages_named h names
@@ -188,4 +174,4 @@ module _ (w : Parts) (valid : IsValid w) (h : List Event) (legal : IsLegal w h) 
       of_port : (port : ℕ) → port < length w.ports → ((length names == 1) ≡ true) × (are_first (held h port) names ≡ true) → take 1 (row b.ports port) ≡ messages_named h names
       of_port port low parts =
           let one : length names ≡ 1 = same_number (length names) 1 parts.0 in
-          ap (take 1) (ports.ports port low) ∙ found (take 1 (held h port)) names (subst (λ k. names_of (take k (held h port)) ≡ names) one (first-named (held h port) names parts.1)) (λ m among. held-posted port m (among-take 1 (held h port) m among))
+          ap (take 1) (ports.ports port low) ∙ found (take 1 (held h port)) names (subst (λ k. names_of (take k (held h port)) ≡ names) one (first-named (held h port) names parts.1)) (λ m among. held-posted port m (Among-take 1 (held h port) m among))

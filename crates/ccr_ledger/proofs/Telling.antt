@@ -37,7 +37,7 @@ use Rattle.ccr_model.specs.Rules.{cuts_at, may_admit, is_concurrent_task, drop_b
 use Rattle.ccr_model.specs.Legal.{IsLegal}
 use Rattle.ccr_base.proofs.Options.{some-below}
 use Rattle.ccr_model.proofs.Members.{Among}
-use Rattle.ccr_model.proofs.Covered.{running_started}
+use Rattle.ccr_model.proofs.LegalIsCovered.{running_started}
 use Rattle.ccr_model.proofs.TaskPlaces.{ArePlaced-legal, placement_by}
 use Rattle.ccr_model.proofs.FiringPlacements.{firing_with_placement}
 use Rattle.ccr_base.proofs.Booleans.{not_not}

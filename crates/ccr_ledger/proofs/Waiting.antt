@@ -24,14 +24,14 @@ use Rattle.ccr_model.specs.Tasks.{is_interleave, is_teardown, fired_by, waiting}
 use Rattle.ccr_model.specs.Rules.{is_first, is_oldest_waiting}
 use Rattle.ccr_model.specs.Legal.{IsAllowed, IsLegal}
 use Rattle.ccr_model.proofs.Allowing.{OneName-legal}
-use Rattle.ccr_model.proofs.Alone.{ever_admitted_fired}
+use Rattle.ccr_model.proofs.ExclusiveRootsAreAlone.{ever_admitted_fired}
 use Rattle.ccr_base.proofs.Booleans.{refuted, no_both, or_left, or_right, same_number, eq-self}
 use Rattle.ccr_model.proofs.Cutting.{fired_by-append}
 use Rattle.ccr_model.proofs.FiredTasks.{IsFired, fired_has, placement_fired}
 use Rattle.ccr_model.proofs.AllowedFirings.{FiresSo-allowed, WaitingFacts-waiting}
 use Rattle.ccr_base.proofs.Options.{some_of}
 use Rattle.ccr_model.proofs.PostNames.{refused_not}
-use Rattle.ccr_model.proofs.Pushes.{ever_admitted-push, cut-push}
+use Rattle.ccr_model.proofs.OneMoreEvent.{ever_admitted-push, cut-push}
 use Rattle.ccr_model.proofs.SameNames.{same_task-self}
 use Rattle.ccr_model.proofs.TasksLeft.{without_both, without_middle}
 use Rattle.ccr_model.proofs.TaskLists.{first_rest, has_oldest, not_more, without-append, without_none, none_gone}

@@ -3,6 +3,7 @@ use Rattle.std.specs.Prelude.{ℕ, ◌+◌, ◌-◌, ◌*◌, Bool, true, false,
 use Rattle.std.specs.List.{slice_get}
 use Rattle.std.specs.Map.{lookup}
 use Rattle.std.specs.Option.{option_map_or}
+use Rattle.ccr_base.specs.Bounds.{most_sites}
 use Rattle.ccr_base.specs.declared.names.TaskId.{TaskId}
 use Rattle.ccr_base.specs.declared.messages.Msg.{Msg}
 use Rattle.ccr_base.specs.Names.{same_task}
@@ -64,7 +65,7 @@ raised index flags = slice_set flags index true
 
 -- each branch has this many rows for its sites, as no handler has more actions
 abbrev pub sites_each : ℕ
-sites_each = 16
+sites_each = most_sites
 
 -- the row of the site
 abbrev pub suspended_at : List (List TaskId) → ℕ → ℕ → List TaskId

@@ -59,8 +59,8 @@ abbrev pub HasLane : List Indices → ℕ → Pred → Type 0
 HasLane lanes number pred = (lane : Indices) × (slice_get lanes number ≡ Some lane) × (lane.pred ≡ pred)
 
 -- a lane whose first indices, so many, are these stands at the number
-abbrev pub HasFront : List Indices → ℕ → List ℕ → ℕ → Type 0
-HasFront lanes number front most = (lane : Indices) × (slice_get lanes number ≡ Some lane) × (take most lane.indices ≡ front)
+abbrev pub HasPrefix : List Indices → ℕ → List ℕ → ℕ → Type 0
+HasPrefix lanes number prefix most = (lane : Indices) × (slice_get lanes number ≡ Some lane) × (take most lane.indices ≡ prefix)
 
 -- the name of the message of the index, while it is there
 abbrev pub name_at : List (Option Msg) → ℕ → Option MsgId

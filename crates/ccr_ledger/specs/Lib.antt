@@ -10,5 +10,5 @@ pub mod Firing
 pub mod Events
 pub mod Refused
 pub mod Asked
-pub mod Fronts
+pub mod Prefixes
 pub mod Kept

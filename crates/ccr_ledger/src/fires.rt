@@ -31,7 +31,7 @@ fn first_stage(placement: PlacementOf<'_>) -> TaskStage
 }
 
 /// A task that a branch of the Interleave fired waits; one of a teardown branch alone, as those before it are cut.
-#[tactic(auto, using(crate::proofs::Undone::alone))]
+#[tactic(auto, using(crate::proofs::ChangedBack::alone))]
 fn wait(
     waiting: &mut Rows<TaskId>,
     placement: PlacementOf<'_>,
@@ -184,7 +184,7 @@ impl Ledger {
     }
 
     /// The task of the card, which the branch fired, stands in the tables. Room for the card is made first.
-    #[tactic(auto, using(crate::proofs::Undone::less_more))]
+    #[tactic(auto, using(crate::proofs::ChangedBack::less_more))]
     fn enter(
         &mut self,
         task: TaskId,

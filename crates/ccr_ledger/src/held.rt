@@ -4,7 +4,7 @@ ghost use Rattle.std.specs.Prelude.{◌≡◌, ◌<◌, ◌≤◌, ℕ, [], ◌�
 ghost use Rattle.std.specs.List.{slice_get};
 ghost use Rattle.ccr_base.specs.declared.messages.Msg.{Msg};
 ghost use Rattle.ccr_base.specs.Choice.{fitting};
-ghost use Rattle.ccr_ledger.specs.Lanes.{AreLanes, HasFront, HasLane, IsLane, entered, entered_item, fitting_indices, is_here, lost, name_at, names_at};
+ghost use Rattle.ccr_ledger.specs.Lanes.{AreLanes, HasPrefix, HasLane, IsLane, entered, entered_item, fitting_indices, is_here, lost, name_at, names_at};
 ghost use Rattle.ccr_ledger.specs.Taken.{IsLeftOf, same_front, shared, without_first, without_some};
 
 use crate::item::Item;
@@ -72,7 +72,7 @@ fn tidy(items: &[Item], lane: &mut IndexLane, most: usize)
     requires { IsLane items.now lane.old }
     ensures lane { IsLane items.now lane.new }
     ensures pred { lane.new.pred ≡ lane.old.pred }
-    ensures front { take most lane.new.indices ≡ take most (fitting_indices 0 lane.old.pred items.now) }
+    ensures prefix { take most lane.new.indices ≡ take most (fitting_indices 0 lane.old.pred items.now) }
 {
     let mut number = 0;
     'index: while number < most {
@@ -141,7 +141,7 @@ fn tidy_lane(
 ) -> Result<usize, OutOfMemory>
     requires { AreLanes items.now lanes.old.items }
     ensures lanes { AreLanes items.now lanes.new.items }
-    ensures found { IfOk result (λ number. HasFront lanes.new.items number (take most (fitting_indices 0 pred items.now)) most) }
+    ensures found { IfOk result (λ number. HasPrefix lanes.new.items number (take most (fitting_indices 0 pred items.now)) most) }
 {
     let number = lane_for(alloc, items, lanes, pred)?;
     tidy(items, &mut lanes[number], most);
@@ -202,7 +202,7 @@ fn first_fitting(
 ) -> Result<Option<usize>, OutOfMemory>
     requires { AreLanes items.now lanes.old.items }
     ensures lanes { AreLanes items.now lanes.new.items }
-    ensures index { IfOk result (λ place. place ≡ slice_get (fitting_indices 0 pred items.now) 0) }
+    ensures index { IfOk result (λ index. index ≡ slice_get (fitting_indices 0 pred items.now) 0) }
 {
     let number = tidy_lane(alloc, items, lanes, pred, 1)?;
     Ok(lanes[number].at(0))
@@ -248,7 +248,7 @@ impl HeldMessages {
     }
 
     /// The names of the oldest messages that satisfy the predicate, at most so many, come behind those that are there.
-    pub fn add_names(
+    pub(crate) fn add_names(
         &mut self,
         pred: Pred,
         most: usize,

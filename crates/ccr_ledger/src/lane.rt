@@ -1,6 +1,6 @@
 //! The indices of the messages that satisfy one predicate, and how many of these are there.
 
-ghost use Rattle.std.specs.Prelude.{◌≡◌, ◌<◌, [], ◌∷◌, ◌++◌, OnOk, length};
+ghost use Rattle.std.specs.Prelude.{◌≡◌, ◌<◌, [], OnOk, length};
 ghost use Rattle.std.specs.Bool.{Decides};
 ghost use Rattle.std.specs.List.{slice_get, remove};
 ghost use Rattle.ccr_ledger.specs.Lanes.{entered, lost};

@@ -106,7 +106,7 @@ fn suspend_behind(suspended: &mut Rows<TaskId>, spot: Spot, task: TaskId) -> Res
 }
 
 /// One more admitted root of the domain.
-#[tactic(auto, using(crate::proofs::Undone::less_more))]
+#[tactic(auto, using(crate::proofs::ChangedBack::less_more))]
 fn count_root(
     admitted: &mut Vec<u32>,
     alone: &mut Vec<u32>,
@@ -262,7 +262,7 @@ impl Ledger {
     }
 
     /// The message comes to its port.
-    #[tactic(auto, using(crate::proofs::Undone::uncounted_counted))]
+    #[tactic(auto, using(crate::proofs::ChangedBack::uncounted_counted))]
     fn post(&mut self, message: Msg) -> Result<(), OutOfMemory>
         ensures ok { OnOk result (self.new ≡ after_post message self.old) }
         ensures err { OnErr result (self.new ≡ self.old) }

@@ -4,7 +4,7 @@ ghost use Rattle.std.specs.Prelude.{◌≡◌, ◌==◌, ◌&&◌, IfOk, length}
 ghost use Rattle.ccr_base.specs.declared.patterns.Pattern.TheVariants.{Slots};
 ghost use Rattle.ccr_ledger.specs.Rows.{row};
 ghost use Rattle.ccr_model.specs.Choice.{are_oldest, are_split, is_choice_of};
-ghost use Rattle.ccr_ledger.specs.Fronts.{are_front, are_fronts};
+ghost use Rattle.ccr_ledger.specs.Prefixes.{are_prefix, are_prefixes};
 
 use crate::HeldMessages;
 use crate::choices::{names_of_slots, oldest_names};
@@ -13,8 +13,8 @@ use ccr_model::choices::are_same;
 use std::alloc::Global;
 
 /// Whether the names are the first of these.
-fn are_front(oldest: &[MsgId], names: &[MsgId]) -> bool
-    ensures { result ≡ are_front oldest.now names.now }
+fn are_prefix(oldest: &[MsgId], names: &[MsgId]) -> bool
+    ensures { result ≡ are_prefix oldest.now names.now }
 {
     let Some((name, later)) = names.split_first() else {
         return true;
@@ -22,20 +22,20 @@ fn are_front(oldest: &[MsgId], names: &[MsgId]) -> bool
     let Some((first, others)) = oldest.split_first() else {
         return false;
     };
-    first == name && are_front(others, later)
+    first == name && are_prefix(others, later)
 }
 
 /// Whether the names are the first of one list, followed by the first of the other.
-fn are_fronts(first: &[MsgId], second: &[MsgId], names: &[MsgId]) -> bool
-    ensures { result ≡ are_fronts first.now second.now names.now }
+fn are_prefixes(first: &[MsgId], second: &[MsgId], names: &[MsgId]) -> bool
+    ensures { result ≡ are_prefixes first.now second.now names.now }
 {
     let Some((name, later)) = names.split_first() else {
         return true;
     };
     let Some((oldest, others)) = first.split_first() else {
-        return are_front(second, names);
+        return are_prefix(second, names);
     };
-    are_front(second, names) || (oldest == name && are_fronts(others, second, later))
+    are_prefix(second, names) || (oldest == name && are_prefixes(others, second, later))
 }
 
 /// Whether the names are those of the slots' choice.
@@ -72,7 +72,7 @@ fn are_gather(
     }
     let of_first = oldest_names(alloc, ports, first, total)?;
     let of_second = oldest_names(alloc, ports, second, total)?;
-    Ok(are_fronts(&of_first, &of_second, names))
+    Ok(are_prefixes(&of_first, &of_second, names))
 }
 
 /// Whether the names are those of a choice of the pattern. Which split of a gather is free.
@@ -109,5 +109,5 @@ pub(crate) fn are_oldest(
         return Ok(false);
     }
     let oldest = oldest_names(alloc, ports, port, 1)?;
-    Ok(are_front(&oldest, names))
+    Ok(are_prefix(&oldest, names))
 }

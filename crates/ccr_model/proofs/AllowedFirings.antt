@@ -19,7 +19,7 @@ use Rattle.ccr_model.specs.Rules.{is_new, cuts_at, needs_no_admission}
 use Rattle.ccr_model.specs.Legal.{IsAllowed}
 use Rattle.ccr_model.proofs.PostNames.{refused_not}
 use Rattle.ccr_model.proofs.Allowing.{OneName}
-use Rattle.ccr_model.proofs.Pushes.{firings-push}
+use Rattle.ccr_model.proofs.OneMoreEvent.{firings-push}
 use Rattle.ccr_base.proofs.Options.{some_of}
 use Rattle.ccr_model.proofs.Members.{Among}
 use Rattle.ccr_model.proofs.SameNames.{same_task-is, same_task-self, same_task-sym}

@@ -37,7 +37,7 @@ use Rattle.ccr_model.specs.Order.{post_from, script_post, fire_at, fire_from, ne
 use Rattle.ccr_model.proofs.PostNames.{along, refused_not}
 use Rattle.ccr_model.proofs.Stable.{firing_named-append, firings-append}
 use Rattle.ccr_base.proofs.Options.{some_of, IfSome-or, some-below, none-above}
-use Rattle.ccr_model.proofs.Members.{Among}
+use Rattle.ccr_model.proofs.Members.{Among, Among-last}
 use Rattle.ccr_model.proofs.FirstNames.{length-names_of}
 use Rattle.ccr_model.proofs.SameNames.{same_task-self, same_message-self, same_value-self}
 use Rattle.ccr_base.proofs.Booleans.{both, or_right, eq-self}
@@ -193,12 +193,6 @@ run_allowed w h t runs = of_option (slice_get (play_of w h t).posts (posts_of_ta
 -- each firing is found by its name
 abbrev pub OneName : List Event → Type 0
 OneName h = (f : Firing) → Among f (firings h) → firing_named h f.task ≡ Some f
-
-Among-last : {X : Type 0} (x y : X) (xs : List X) → Among x (xs ++ y ∷ []) → Among x xs ⊎ (x ≡ y)
-Among-last x y [] (inl e) = inr e
-Among-last x y [] (inr h) = absurd h
-Among-last x y (z ∷ xs) (inl e) = inl (inl e)
-Among-last x y (z ∷ xs) (inr h) = elim (Among-last x y xs h) [ inl l ↦ inl (inr l) | inr r ↦ inr r ]
 
 OneName_fire : (h : List Event) (t : TaskId) (s : Spot) (ms : List MsgId) (cs : List TaskId) → has_task (fired h) t ≡ false → OneName h → OneName (h ++ Fire t s ms cs ∷ [])
 OneName_fire h t s ms cs new one f among = of_last (Among-last f _ (firings h) (rw firings-append at among))

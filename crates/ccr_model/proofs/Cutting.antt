@@ -28,7 +28,7 @@ use Rattle.ccr_model.specs.Legal.{IsAllowed, IsLegal}
 use Rattle.ccr_model.proofs.PostNames.{refused_not}
 use Rattle.ccr_model.proofs.Stable.{firing_named-append}
 use Rattle.ccr_model.proofs.Allowing.{OneName, OneName-legal}
-use Rattle.ccr_model.proofs.Pushes.{put-push, ever_admitted-push, cut-push}
+use Rattle.ccr_model.proofs.OneMoreEvent.{put-push, ever_admitted-push, cut-push}
 use Rattle.ccr_model.proofs.LegalParts.{along_legal, onward, Parted-legal}
 use Rattle.ccr_base.proofs.Options.{some_of}
 use Rattle.ccr_base.proofs.Booleans.{both, refuted, no_both, same_number}

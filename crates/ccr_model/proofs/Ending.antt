@@ -12,7 +12,7 @@ use Rattle.ccr_model.specs.Tasks.{running}
 use Rattle.ccr_model.specs.Legal.{IsAllowed, IsLegal}
 use Rattle.ccr_model.specs.Consequences.{are_distinct_tasks}
 use Rattle.ccr_model.proofs.PostNames.{refused_not}
-use Rattle.ccr_model.proofs.Pushes.{started-push, dropped-push, ended-push, yielded-push, last-push}
+use Rattle.ccr_model.proofs.OneMoreEvent.{started-push, dropped-push, ended-push, yielded-push, last-push}
 use Rattle.ccr_model.proofs.LegalParts.{along_legal}
 use Rattle.ccr_model.proofs.TasksLeft.{of_without, distinct-push}
 use Rattle.ccr_base.proofs.Booleans.{refuted, no_both}

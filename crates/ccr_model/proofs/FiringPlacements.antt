@@ -15,7 +15,7 @@ use Rattle.ccr_model.specs.Posts.{held}
 use Rattle.ccr_model.specs.Choice.{is_choice, are_oldest}
 use Rattle.ccr_model.specs.Legal.{IsAllowed, IsLegal}
 use Rattle.ccr_model.proofs.TakenOnce.{FireFacts-allowed}
-use Rattle.ccr_model.proofs.Pushes.{firings-push}
+use Rattle.ccr_model.proofs.OneMoreEvent.{firings-push}
 use Rattle.ccr_model.proofs.LegalParts.{along_legal}
 use Rattle.ccr_base.proofs.Options.{some_of}
 use Rattle.ccr_model.proofs.Members.{Among, Among-either}

@@ -5,8 +5,9 @@ mod WorkedDomains
 mod WrongEvents
 pub mod Members
 pub mod SameNames
+pub mod SameLists
 pub mod TasksLeft
-pub mod Pushes
+pub mod OneMoreEvent
 pub mod HeldSteps
 pub mod PostNames
 pub mod LegalParts
@@ -15,11 +16,11 @@ pub mod TakenOnce
 pub mod TaskSteps
 pub mod Stable
 pub mod FiredTasks
-pub mod Quiet
+pub mod QuietAllowsNone
 pub mod PlacementDomains
 pub mod Allowing
-pub mod Covered
-pub mod Alone
+pub mod LegalIsCovered
+pub mod ExclusiveRootsAreAlone
 pub mod Segments
 pub mod ValidHandlers
 pub mod PlayPast
@@ -37,3 +38,4 @@ pub mod Roots
 pub mod MessageNames
 pub mod Queued
 pub mod TasksOnce
+pub mod NamesLeft

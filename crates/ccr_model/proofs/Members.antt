@@ -1,6 +1,7 @@
 -- Who is a member of a list.
-use Rattle.std.proofs.Common.{◌≡◌, ℕ, zero, suc, Bool, true, ◌⊎◌, inl, inr, List, [], ◌∷◌, ◌++◌, take, Some, refl, sym, ap}
-use Rattle.std.specs.List.{slice_get, list_all}
+use Rattle.std.proofs.Common.{◌≡◌, ℕ, zero, suc, Bool, true, false, ◌⊎◌, inl, inr, List, [], ◌∷◌, ◌++◌, map, filter, take, Some, refl, sym, ap, ◌∙◌, arith}
+use Rattle.std.specs.Prelude.{if◌then◌else◌}
+use Rattle.std.specs.List.{Contains, slice_get, list_all}
 
 -- x is a member
 abbrev pub Among : {X : Type 0} → X → List X → Type 0
@@ -38,6 +39,38 @@ Among-take zero xs x is = absurd is
 Among-take (suc k) [] x is = absurd is
 Among-take (suc k) (y ∷ xs) x (inl same) = inl same
 Among-take (suc k) (y ∷ xs) x (inr more) = inr (Among-take k xs x more)
+
+-- a member of those that pass is a member, and passes
+pub Among-filter : {X : Type 0} (p : X → Bool) (xs : List X) (x : X) → Among x (filter p xs) → Among x xs × (p x ≡ true)
+Among-filter p [] x is = absurd is
+Among-filter p (y ∷ xs) x is = by_test (p y) refl is (Among-filter p xs x)
+  where
+    by_test : (b : Bool) → p y ≡ b → Among x (if b then y ∷ filter p xs else filter p xs) → (Among x (filter p xs) → Among x xs × (p x ≡ true)) → Among x (y ∷ xs) × (p x ≡ true)
+    by_test true e (inl same) rest = (inl same, ap p same ∙ e)
+    by_test true e (inr more) rest = let it = rest more in (inr it.0, it.1)
+    by_test false e more rest = let it = rest more in (inr it.0, it.1)
+
+pub Among-kept : {X : Type 0} (p : X → Bool) (xs : List X) (x : X) → Among x (filter p xs) → Among x xs
+Among-kept p xs x is = (Among-filter p xs x is).0
+
+-- what is made of a member is among what is made of all
+pub Among-map : {X Y : Type 0} (f : X → Y) (xs : List X) (x : X) → Among x xs → Among (f x) (map f xs)
+Among-map f [] x is = absurd is
+Among-map f (y ∷ xs) x (inl e) = inl (ap f e)
+Among-map f (y ∷ xs) x (inr is) = inr (Among-map f xs x is)
+
+-- a member of a list and one more is of the list, or the one
+pub Among-last : {X : Type 0} (x y : X) (xs : List X) → Among x (xs ++ y ∷ []) → Among x xs ⊎ (x ≡ y)
+Among-last x y [] (inl e) = inr e
+Among-last x y [] (inr h) = absurd h
+Among-last x y (z ∷ xs) (inl e) = inl (inl e)
+Among-last x y (z ∷ xs) (inr h) = elim (Among-last x y xs h) [ inl l ↦ inl (inr l) | inr r ↦ inr r ]
+
+-- a member, as std says it
+pub Contains-among : {X : Type 0} (xs : List X) (x : X) → Among x xs → Contains xs x
+Contains-among [] x among = absurd among
+Contains-among (y ∷ xs) x (inl same) = (0, omega arith, sym same)
+Contains-among (y ∷ xs) x (inr more) = let rest = Contains-among xs x more in (suc rest.0, omega (arith, rest.1), rest.2)
 
 -- a test that each member passes
 pub all_from : {X : Type 0} (p : X → Bool) (xs : List X) → ((x : X) → Among x xs → p x ≡ true) → list_all p xs ≡ true

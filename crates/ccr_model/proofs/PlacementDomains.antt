@@ -5,16 +5,16 @@ use Rattle.std.specs.List.{slice_get}
 use Rattle.ccr_wiring.specs.declared.parts.DomainPart.{DomainPart}
 use Rattle.ccr_wiring.specs.declared.parts.Parts.{Parts}
 use Rattle.ccr_wiring.specs.Domains.{least_with, domain_of}
-use Rattle.ccr_wiring.specs.Repeats.{has_port}
 use Rattle.ccr_wiring.specs.Wirings.{Placement, placement, placements_from, in_domain}
 use Rattle.ccr_wiring.proofs.DomainsOfOwnKind.{placement_of_arbiter, least-low}
 use Rattle.ccr_wiring.proofs.Positions.{placement-domain}
 use Rattle.ccr_base.proofs.Options.{some-below}
+use Rattle.ccr_base.specs.Lists.{has_number}
 
 -- a domain has no number above that of an arbiter in it
 domain-low : (domains : List DomainPart) (arbiter : ℕ) → domain_of domains arbiter ≤ arbiter
 domain-low [] arbiter = omega arith
-domain-low (part ∷ parts) arbiter = of_test (has_port part.members arbiter) (domain-low parts arbiter)
+domain-low (part ∷ parts) arbiter = of_test (has_number part.members arbiter) (domain-low parts arbiter)
   where
     of_test : (b : Bool) → domain_of parts arbiter ≤ arbiter → (if b then least_with arbiter part.members else domain_of parts arbiter) ≤ arbiter
     of_test true rest = least-low arbiter part.members

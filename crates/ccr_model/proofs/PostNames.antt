@@ -14,7 +14,7 @@ use Rattle.ccr_model.specs.Posts.{posts, is_script_of, is_message_of}
 use Rattle.ccr_model.specs.declared.rule.Rule.{Rule}
 use Rattle.ccr_model.specs.Rules.{refusal_of_post, refused}
 use Rattle.ccr_model.specs.Legal.{IsAllowed, IsLegal, IsLegalAfter}
-use Rattle.ccr_model.proofs.Pushes.{posts-push}
+use Rattle.ccr_model.proofs.OneMoreEvent.{posts-push}
 use Rattle.ccr_model.proofs.SameNames.{same_message-is}
 
 -- what the empty history has and each allowed event keeps, each legal history has

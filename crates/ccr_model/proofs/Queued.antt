@@ -11,7 +11,7 @@ use Rattle.ccr_model.specs.Legal.{IsLegal}
 use Rattle.ccr_model.specs.Tasks.{is_for_queue, queued}
 use Rattle.ccr_model.proofs.FiredTasks.{fired_has}
 use Rattle.ccr_model.proofs.AllowedFirings.{firings-other}
-use Rattle.ccr_model.proofs.Pushes.{put-push, started-push, dropped-push}
+use Rattle.ccr_model.proofs.OneMoreEvent.{put-push, started-push, dropped-push}
 use Rattle.ccr_model.proofs.TaskLists.{not_within}
 use Rattle.ccr_model.proofs.TaskPlaces.{ArePlaced-legal}
 use Rattle.ccr_model.proofs.TasksLeft.{distinct-filter}

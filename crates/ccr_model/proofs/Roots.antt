@@ -19,14 +19,14 @@ use Rattle.ccr_model.specs.Rules.{needs_no_admission}
 use Rattle.ccr_model.specs.Legal.{IsAllowed, IsLegal}
 use Rattle.ccr_model.proofs.TaskSteps.{firing_named-fire}
 use Rattle.ccr_model.proofs.Stable.{firing_named-append, root_at-append}
-use Rattle.ccr_model.proofs.Pushes.{ever_admitted-push}
+use Rattle.ccr_model.proofs.OneMoreEvent.{ever_admitted-push}
 use Rattle.ccr_model.proofs.LegalParts.{along_legal}
 use Rattle.ccr_base.proofs.Options.{some_of}
 use Rattle.ccr_model.proofs.SameNames.{same_task-is, same_task-self}
 use Rattle.ccr_model.proofs.TasksLeft.{of_filter}
 use Rattle.ccr_base.proofs.Booleans.{not_true, both, and_not, and_false, refuted, no_both}
 use Rattle.ccr_model.proofs.FiredTasks.{IsFired, root_stays}
-use Rattle.ccr_model.proofs.Alone.{lasts_fired}
+use Rattle.ccr_model.proofs.ExclusiveRootsAreAlone.{lasts_fired}
 use Rattle.ccr_model.specs.AtWork.{is_queued, is_suspended, is_at_work}
 use Rattle.ccr_model.specs.Interleaves.{is_placement_in, is_of_interleave}
 use Rattle.ccr_model.proofs.TaskLists.{to_filter, among_left, not_within, any_named}

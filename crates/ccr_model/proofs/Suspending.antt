@@ -3,6 +3,7 @@ use Rattle.std.proofs.Common.{◌≡◌, ℕ, suc, ◌≤◌, Bool, true, false,
 use Rattle.std.specs.Prelude.{◌==◌, if◌then◌else◌, option_map}
 use Rattle.std.proofs.lemmas.Grind.{common_steps}
 use Rattle.std.proofs.lemmas.Bool.Decides.{nat_tests}
+use Rattle.std.proofs.lemmas.List.{drop-append-le}
 use Rattle.ccr_base.specs.declared.names.TaskId.{TaskId}
 use Rattle.ccr_base.specs.declared.names.MsgId.{MsgId}
 use Rattle.ccr_base.specs.declared.names.Spot.{Spot}
@@ -20,7 +21,7 @@ use Rattle.ccr_model.specs.Live.{is_none_of}
 use Rattle.ccr_model.specs.Legal.{IsAllowed, IsLegal}
 use Rattle.ccr_model.specs.Consequences.{are_distinct_tasks}
 use Rattle.ccr_model.proofs.Stable.{firing_named-append}
-use Rattle.ccr_model.proofs.Pushes.{yielded-push}
+use Rattle.ccr_model.proofs.OneMoreEvent.{yielded-push}
 use Rattle.ccr_model.proofs.LegalParts.{along_legal}
 use Rattle.ccr_base.proofs.Options.{some_of, some_map}
 use Rattle.ccr_model.proofs.SameNames.{same_task-self}
@@ -28,7 +29,7 @@ use Rattle.ccr_model.proofs.TasksLeft.{has_task-append, of_filter, filter_on, di
 use Rattle.ccr_base.proofs.Booleans.{not_true, both, or_left, or_right, and_not, same_number}
 use Rattle.ccr_model.proofs.FiredTasks.{IsFired, none_fired}
 use Rattle.ccr_model.specs.AtWork.{is_suspended}
-use Rattle.ccr_model.proofs.TaskLists.{filter_append, has_oldest, of_more, of_one, has_task-drop, distinct-drop, drop_behind, drop_one_more, drop_some}
+use Rattle.ccr_model.proofs.TaskLists.{filter_append, has_oldest, of_more, of_one, has_task-drop, distinct-drop, drop_one_more, drop_some}
 use Rattle.ccr_model.proofs.TaskPlaces.{ArePlaced-legal}
 use Rattle.ccr_model.proofs.AllowedFirings.{FiresSo-allowed, firings-other}
 use Rattle.ccr_model.proofs.Ending.{AreEnded-legal, RunningFacts-allowed}
@@ -145,7 +146,7 @@ AreEnough-legal w h legal = along_legal w AreEnough (AreEnough_kept w) (λ b k. 
 
 -- who is suspended after one more event
 pub suspended-other : (w : Parts) (h : List Event) (e : Event) (b k : ℕ) → firing_of e ≡ [] → IsLegal w h → ((t : TaskId) → has_task (yielded_by e) t ≡ true → IsFired h t) → suspended (h ++ e ∷ []) (Site b k) ≡ suspended h (Site b k) ++ filter (yields_at h (Site b k)) (yielded_by e)
-suspended-other w h e b k none legal fires = rw (fired_at-other h e (Site b k) none, yielded_at-push w h e (Site b k) legal fires) (drop_behind (length (fired_at h (Site b k))) (yielded_at h (Site b k)) (filter (yields_at h (Site b k)) (yielded_by e)) (AreEnough-legal w h legal b k))
+suspended-other w h e b k none legal fires = rw (fired_at-other h e (Site b k) none, yielded_at-push w h e (Site b k) legal fires) (drop-append-le (length (fired_at h (Site b k))) (yielded_at h (Site b k)) (filter (yields_at h (Site b k)) (yielded_by e)) (AreEnough-legal w h legal b k))
 
 pub suspended-branch : (w : Parts) (h : List Event) (t : TaskId) (c : ℕ) (ms : List MsgId) (cs : List TaskId) (b k : ℕ) → IsLegal w h → suspended (h ++ Fire t (Branch c) ms cs ∷ []) (Site b k) ≡ suspended h (Site b k)
 suspended-branch w h t c ms cs b k legal = rw (fired_at-fire h t (Branch c) ms cs (Site b k), yielded_at-push w h (Fire t (Branch c) ms cs) (Site b k) legal (none_fired h), append-nil (fired_at h (Site b k)), append-nil (yielded_at h (Site b k))) refl

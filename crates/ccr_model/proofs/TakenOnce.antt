@@ -23,10 +23,11 @@ use Rattle.ccr_model.specs.Choice.{names_of, joined, choice_of_slots, are_first,
 use Rattle.ccr_model.specs.Live.{is_live, has_room}
 use Rattle.ccr_model.specs.Rules.{is_new}
 use Rattle.ccr_model.specs.Legal.{IsAllowed, IsLegal}
-use Rattle.ccr_wiring.specs.Valid.{has_port, are_apart, slot_ports, names_ports_once, HasPortsApart}
+use Rattle.ccr_wiring.specs.Valid.{slot_ports, names_ports_once, HasPortsApart}
 use Rattle.ccr_model.proofs.PostNames.{times, along, refused_not, AreNamed, named_kept}
 use Rattle.ccr_model.proofs.SameNames.{same_message-is}
 use Rattle.ccr_base.proofs.Booleans.{both}
+use Rattle.ccr_base.specs.Lists.{has_number, are_apart}
 
 -- how often the name stands in the list of names
 abbrev pub times_named : MsgId → List MsgId → ℕ
@@ -34,7 +35,7 @@ times_named name names = length (filter (same_message name) names)
 
 -- how often it stands among the messages of these ports
 abbrev times_at : MsgId → List ℕ → List Msg → ℕ
-times_at name ports ms = length (filter (λ (m : Msg). same_message m.id name && has_port ports m.port) ms)
+times_at name ports ms = length (filter (λ (m : Msg). same_message m.id name && has_number ports m.port) ms)
 
 pub times-filter : (name : MsgId) (t : Msg → Bool) (ms : List Msg) → times name (filter t ms) ≤ times name ms
 times-filter name t [] = grind arith
@@ -54,7 +55,7 @@ times-append name [] ns = grind arith
 times-append name (m ∷ ms) ns = grind (arith, times-append name ms ns)
 
 -- the messages of a port and those of others
-times_at-apart : (name : MsgId) (t : Msg → Bool) (port : ℕ) (ports : List ℕ) → has_port ports port ≡ false → (ms : List Msg) → times name (filter t (filter (λ m. m.port == port) ms)) + times_at name ports (filter t ms) ≤ times_at name (port ∷ ports) (filter t ms)
+times_at-apart : (name : MsgId) (t : Msg → Bool) (port : ℕ) (ports : List ℕ) → has_number ports port ≡ false → (ms : List Msg) → times name (filter t (filter (λ m. m.port == port) ms)) + times_at name ports (filter t ms) ≤ times_at name (port ∷ ports) (filter t ms)
 times_at-apart name t port ports apart [] = grind arith
 times_at-apart name t port ports apart (m ∷ ms) = grind (arith, nat_tests, times_at-apart name t port ports apart ms)
 
@@ -76,8 +77,8 @@ times-slots : (name : MsgId) (t : Msg → Bool) (ms : List Msg) (slots : List Sl
 times-slots name t ms [] xs apart is = grind arith
 times-slots name t ms (slot ∷ slots) xs apart is =
     let parts = joined_some (choice slot (at t ms slot.port)) (choice_of_slots (at t ms) slots) xs is in
-    let apart_both = both (not (has_port (slot_ports slots) slot.port)) (are_apart (slot_ports slots)) apart in
-    let other : has_port (slot_ports slots) slot.port ≡ false = grind (arith, apart_both.0) in
+    let apart_both = both (not (has_number (slot_ports slots) slot.port)) (are_apart (slot_ports slots)) apart in
+    let other : has_number (slot_ports slots) slot.port ≡ false = grind (arith, apart_both.0) in
     let here = times-choice name slot (at t ms slot.port) parts.0 parts.2 in
     let there = times-slots name t ms slots parts.1 apart_both.1 parts.3 in
     subst (λ ys. times name ys ≤ times_at name (slot.port ∷ slot_ports slots) (filter t ms)) parts.4 (omega (arith, times-append name parts.0 parts.1, here, there, times_at-apart name t slot.port (slot_ports slots) other ms))

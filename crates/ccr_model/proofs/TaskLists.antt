@@ -6,7 +6,7 @@ use Rattle.ccr_base.specs.declared.names.TaskId.{TaskId}
 use Rattle.ccr_base.specs.Names.{same_task, has_task, without}
 use Rattle.ccr_model.specs.Consequences.{are_distinct_tasks}
 use Rattle.ccr_model.specs.Rules.{is_first}
-use Rattle.ccr_model.proofs.Quiet.{first_is}
+use Rattle.ccr_model.proofs.QuietAllowsNone.{first_is}
 use Rattle.ccr_base.proofs.Options.{head_rest}
 use Rattle.ccr_model.proofs.SameNames.{same_task-is, same_task-self}
 use Rattle.ccr_model.proofs.TasksLeft.{has_task-append, has_task-filter}
@@ -124,11 +124,6 @@ pub distinct-drop : (n : ℕ) (ts : List TaskId) → are_distinct_tasks ts ≡ t
 distinct-drop zero ts is = is
 distinct-drop (suc n) [] is = is
 distinct-drop (suc n) (x ∷ ts) is = distinct-drop n ts (both (not (has_task ts x)) (are_distinct_tasks ts) is).1
-
-pub drop_behind : (n : ℕ) (ts us : List TaskId) → n ≤ length ts → drop n (ts ++ us) ≡ drop n ts ++ us
-drop_behind zero ts us few = refl
-drop_behind (suc n) [] us few = absurd (omega arith)
-drop_behind (suc n) (x ∷ ts) us few = drop_behind n ts us (omega arith)
 
 pub drop_one_more : (n : ℕ) (ts us : List TaskId) (t : TaskId) → drop n ts ≡ t ∷ us → drop (suc n) ts ≡ us
 drop_one_more zero [] us t is = absurd (cc)

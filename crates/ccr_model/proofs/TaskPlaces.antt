@@ -15,7 +15,7 @@ use Rattle.ccr_model.specs.Rules.{is_first, needs_no_admission, may_put, is_olde
 use Rattle.ccr_model.specs.Legal.{IsAllowed, IsLegal}
 use Rattle.ccr_model.specs.Consequences.{are_distinct_tasks}
 use Rattle.ccr_model.proofs.PostNames.{along, refused_not}
-use Rattle.ccr_model.proofs.Pushes.{put-push, started-push, dropped-push}
+use Rattle.ccr_model.proofs.OneMoreEvent.{put-push, started-push, dropped-push}
 use Rattle.ccr_base.proofs.Options.{some_of, some_map, head_rest}
 use Rattle.ccr_model.proofs.TasksLeft.{of_filter, of_without, out_left, distinct-push}
 use Rattle.ccr_base.proofs.Booleans.{not_true, both, refuted, no_both}

@@ -13,7 +13,7 @@ use Rattle.ccr_model.specs.declared.history.EndHow.{EndHow}
 use Rattle.ccr_base.specs.Names.{same_task, has_task, without}
 use Rattle.ccr_model.specs.Firings.{Firing, firings, firing_named, put, started, ended, dropped}
 use Rattle.ccr_model.specs.Tasks.{is_for_queue, queued, running}
-use Rattle.ccr_model.proofs.Pushes.{firings-push, put-push, started-push, dropped-push}
+use Rattle.ccr_model.proofs.OneMoreEvent.{firings-push, put-push, started-push, dropped-push}
 use Rattle.ccr_model.proofs.TasksLeft.{has_task-without, without_both, lists_start}
 use Rattle.ccr_base.proofs.Booleans.{neither}
 

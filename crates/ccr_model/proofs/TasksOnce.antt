@@ -20,7 +20,7 @@ use Rattle.ccr_base.proofs.Booleans.{both, not_true, same_number}
 use Rattle.ccr_model.proofs.AllowedFirings.{FiresSo-allowed, WaitingFacts-waiting}
 use Rattle.ccr_base.proofs.Options.{some_of}
 use Rattle.ccr_model.proofs.PostNames.{along}
-use Rattle.ccr_model.proofs.Pushes.{fired-fire, firings-push}
+use Rattle.ccr_model.proofs.OneMoreEvent.{fired-fire, firings-push}
 use Rattle.ccr_model.proofs.TaskLists.{not_within}
 use Rattle.ccr_model.proofs.TasksLeft.{distinct-push, distinct-filter}
 

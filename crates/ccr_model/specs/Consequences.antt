@@ -56,12 +56,17 @@ stay_last test (task ∷ tasks) = (not (test task) || list_all test tasks) && st
 
 -- after a teardown's firing no other branch of the domain fires, and once a segment of it started no task of another root starts
 abbrev pub ends_by_teardown : Parts → List Event → ℕ → Bool
-ends_by_teardown wiring history domain = stay_last (is_teardown_task wiring history) (fired_by wiring (λ s. s.domain == domain) history) && stay_last (is_teardown_task wiring history) (filter (is_of_domain wiring history domain) (started history))
+ends_by_teardown wiring history domain =
+    stay_last (is_teardown_task wiring history) (fired_by wiring (λ s. s.domain == domain) history)
+    && stay_last (is_teardown_task wiring history) (filter (is_of_domain wiring history domain) (started history))
 
 -- the domains, by the numbers of the arbiters, of which the first has this one, fire and admit as they should
 abbrev pub are_kept_from : Parts → List Event → ℕ → List ArbiterPart → Bool
 are_kept_from wiring history number [] = true
-are_kept_from wiring history number (arbiter ∷ arbiters) = has_one_firing wiring history number arbiter.kind && keeps_exclusion wiring history number && are_kept_from wiring history (number + 1) arbiters
+are_kept_from wiring history number (arbiter ∷ arbiters) =
+    has_one_firing wiring history number arbiter.kind
+    && keeps_exclusion wiring history number
+    && are_kept_from wiring history (number + 1) arbiters
 
 -- in each of the domains of Interleaves only admitted roots run, and a teardown ends it
 abbrev pub are_interleaved_from : Parts → List Event → ℕ → List ArbiterPart → Bool
@@ -74,7 +79,10 @@ are_interleaved_from wiring history number (arbiter ∷ arbiters) = interleaved 
 
 -- start order: what started and what is queued are what was put and not dropped, in the order of the puts
 abbrev pub is_in_order : Parts → List Event → ℕ → Bool
-is_in_order wiring history queue = same_lists same_task (filter (is_for_queue wiring history queue) (started history) ++ queued wiring history queue) (filter (is_for_queue wiring history queue) (without (put history) (dropped history)))
+is_in_order wiring history queue =
+    same_lists same_task
+    (filter (is_for_queue wiring history queue) (started history) ++ queued wiring history queue)
+    (filter (is_for_queue wiring history queue) (without (put history) (dropped history)))
 
 -- each of the queues, of which the first has this number, starts its tasks in the order of their puts
 abbrev pub are_in_order_from : Parts → List Event → ℕ → List QueuePart → Bool

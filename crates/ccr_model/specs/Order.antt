@@ -1,5 +1,5 @@
 -- The event that one thread puts first.
-use Rattle.std.specs.Prelude.{◌≡◌, ℕ, zero, suc, ◌+◌, max, ◌==◌, ◌&&◌, List, [], ◌∷◌, ◌++◌, find, Option, Some, None, option_map, if◌then◌else◌}
+use Rattle.std.specs.Prelude.{◌≡◌, ℕ, zero, suc, ◌+◌, ◌^◌, max, ◌==◌, ◌&&◌, List, [], ◌∷◌, ◌++◌, find, Option, Some, None, option_map, if◌then◌else◌}
 use Rattle.std.specs.List.{slice_get}
 use Rattle.std.specs.Option.{option_or}
 use Rattle.ccr_base.specs.declared.names.TaskId.{TaskId}
@@ -26,25 +26,35 @@ use Rattle.ccr_model.specs.Live.{is_live, has_room}
 use Rattle.ccr_model.specs.Choice.{engine_choice, names_of}
 use Rattle.ccr_model.specs.Rules.{cuts_at, may_admit, may_put, drop_at, has_budget}
 
--- the post of this place of the poster's script
+-- the post with this index in the poster's script
 abbrev pub script_post : ℕ → ℕ → Sent → Event
 script_post actor index sent = Post (record { id = Script actor index; port = sent.port; value = sent.value; causes = sent.causes })
 
 -- of the posters, of which the first has this number, the next line of the first that has one left
 abbrev pub post_from : List Event → ℕ → List PosterPart → Option Event
 post_from history number [] = None
-post_from history number (poster ∷ posters) = option_or (option_map (script_post number (posts_of_poster history number)) (slice_get poster.posts (posts_of_poster history number))) (post_from history (number + 1) posters)
+post_from history number (poster ∷ posters) =
+    option_or
+    (option_map (script_post number (posts_of_poster history number)) (slice_get poster.posts (posts_of_poster history number)))
+    (post_from history (number + 1) posters)
 
 -- one above the actor's greatest attempt, or 0
 abbrev pub next_attempt : ℕ → List TaskId → ℕ
 next_attempt actor [] = 0
 next_attempt actor (task ∷ tasks) = if task.actor == actor then max (task.attempt + 1) (next_attempt actor tasks) else next_attempt actor tasks
 
+-- the next attempt of who finishes a run, behind a history that is gone on from, at most: as many are left for what is to come
+abbrev pub most_attempts : ℕ
+most_attempts = 2 ^ 31
+
 -- the firing at the spot, where it is live, has room and has a choice
 abbrev pub fire_at : Parts → ℕ → List Event → Spot → Option Event
 fire_at wiring closer history spot =
     if is_live wiring history spot && has_room wiring history spot
-    then option_map (λ messages. Fire (record { actor = closer; attempt = next_attempt closer (fired history) }) spot (names_of messages) (cuts_at wiring history spot)) (engine_choice wiring history spot)
+    then
+    option_map
+    (λ messages. Fire (record { actor = closer; attempt = next_attempt closer (fired history) }) spot (names_of messages) (cuts_at wiring history spot))
+    (engine_choice wiring history spot)
     else None
 
 -- at the first of the spots that can fire
@@ -72,7 +82,7 @@ how_of plays.Done = ends.Done
 how_of (plays.Failed value) = ends.Failed value
 how_of (plays.Yield site) = ends.Yield
 
--- the post of this place of the task's play
+-- the post with this index in the task's play
 abbrev pub task_post : TaskId → ℕ → Sent → Event
 task_post task index sent = Post (record { id = Task task index; port = sent.port; value = sent.value; causes = sent.causes })
 
@@ -88,7 +98,10 @@ run_task wiring history task = run_with wiring history task (play_of wiring hist
 -- of the queues, of which the first has this number, the oldest task of the first that has one
 abbrev pub start_from : Parts → ℕ → List Event → ℕ → List QueuePart → Option Event
 start_from wiring closer history number [] = None
-start_from wiring closer history number (queue ∷ queues) = option_or (option_map (λ task. Start task closer) (slice_get (queued wiring history number) 0)) (start_from wiring closer history (number + 1) queues)
+start_from wiring closer history number (queue ∷ queues) =
+    option_or
+    (option_map (λ task. Start task closer) (slice_get (queued wiring history number) 0))
+    (start_from wiring closer history (number + 1) queues)
 
 -- the event that one thread puts first: a post, else a firing, an admission, a put, a running task's next event, a start; the closer fires and starts
 abbrev pub first : Parts → ℕ → List Event → Option Event

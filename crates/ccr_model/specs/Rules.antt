@@ -2,6 +2,7 @@
 use Rattle.std.specs.Prelude.{ℕ, ◌+◌, ◌-◌, Bool, true, false, not, ◌==◌, ◌&&◌, ◌||◌, nat_lt, nat_le, List, [], length, Option, Some, None, option_and_then, if◌then◌else◌}
 use Rattle.std.specs.List.{slice_get, list_all}
 use Rattle.std.specs.Option.{option_map_or}
+use Rattle.ccr_base.specs.Bounds.{most_actors}
 use Rattle.ccr_base.specs.declared.names.TaskId.{TaskId}
 use Rattle.ccr_base.specs.declared.names.MsgId.{MsgId}
 use Rattle.ccr_base.specs.declared.names.MsgId.TheVariants.{Script, Task}
@@ -13,6 +14,7 @@ use Rattle.ccr_handler.specs.declared.segments.PlayEnd.{PlayEnd}
 use Rattle.ccr_handler.specs.declared.segments.PlayEnd.TheVariants as plays
 use Rattle.ccr_wiring.specs.declared.parts.Parts.{Parts}
 use Rattle.ccr_wiring.specs.declared.parts.PosterPart.{PosterPart}
+use Rattle.ccr_base.specs.declared.policies.Group.{Group}
 use Rattle.ccr_base.specs.declared.policies.Policy.{Policy}
 use Rattle.ccr_base.specs.declared.policies.Policy.TheVariants.{Discard}
 use Rattle.ccr_model.specs.declared.history.Event.{Event}
@@ -24,6 +26,7 @@ use Rattle.ccr_model.specs.declared.rule.Rule.TheVariants as rules
 use Rattle.ccr_base.specs.Names.{same_task, has_task, same_lists, same_options}
 use Rattle.ccr_base.specs.Values.{same_value}
 use Rattle.ccr_model.specs.Posts.{posts_of_poster, posts_of_task, posts_of_tasks}
+use Rattle.ccr_wiring.specs.Actors.{is_behind_posters}
 use Rattle.ccr_wiring.specs.Wirings.{Placement, placement, policy_of}
 use Rattle.ccr_model.specs.Firings.{fired, cut, ever_admitted, put, spot_of}
 use Rattle.ccr_model.specs.TaskData.{placement_of, play_of}
@@ -37,11 +40,16 @@ is_post message sent = (message.port == sent.port) && same_value message.value s
 
 -- rule 1: it is the poster's next line
 abbrev pub is_script_line : Parts → List Event → ℕ → ℕ → Msg → Bool
-is_script_line wiring history actor index message = (index == posts_of_poster history actor) && option_map_or (is_post message) (option_and_then (λ (p : PosterPart). slice_get p.posts index) (slice_get wiring.posters actor)) false
+is_script_line wiring history actor index message =
+    (index == posts_of_poster history actor)
+    && option_map_or (is_post message) (option_and_then (λ (p : PosterPart). slice_get p.posts index) (slice_get wiring.posters actor)) false
 
 -- rule 2: it is the next post of the running task's play
 abbrev pub is_play_post : Parts → List Event → TaskId → ℕ → Msg → Bool
-is_play_post wiring history task index message = has_task (running history) task && (index == posts_of_task history task) && option_map_or (is_post message) (slice_get (play_of wiring history task).posts index) false
+is_play_post wiring history task index message =
+    has_task (running history) task
+    && (index == posts_of_task history task)
+    && option_map_or (is_post message) (slice_get (play_of wiring history task).posts index) false
 
 -- rule 3: tasks have made fewer posts than the budget
 abbrev pub has_budget : Parts → List Event → Bool
@@ -49,7 +57,7 @@ has_budget wiring history = nat_lt (posts_of_tasks history) wiring.budget
 
 -- rule 4: no task of this name fired, and its actor is at most 32
 abbrev pub is_new : List Event → TaskId → Bool
-is_new history task = not (has_task (fired history) task) && nat_le task.actor 32
+is_new history task = not (has_task (fired history) task) && nat_le task.actor most_actors
 
 -- rule 8: the tasks that a firing at the spot cuts
 abbrev pub cuts_at : Parts → List Event → Spot → List TaskId
@@ -68,9 +76,14 @@ is_oldest_waiting wiring history task = option_map_or (λ (s : Placement). is_fi
 abbrev pub is_concurrent_task : Parts → List Event → TaskId → Bool
 is_concurrent_task wiring history task = option_map_or (λ (s : Placement). is_concurrent s.branch.group) (placement_of wiring history task) false
 
--- rule 10: a concurrent task is admitted beside concurrent ones alone, any other where no admitted root is left that is not over
+-- whether a task of the group may join these admitted roots: a concurrent one joins concurrent ones alone, any other none
+abbrev pub may_join : Parts → List Event → Group → List TaskId → Bool
+may_join wiring history group roots = if is_concurrent group then list_all (is_concurrent_task wiring history) roots else is_none_of roots
+
+-- rule 10: it may join the roots of its domain that were admitted and aren't over
 abbrev pub may_admit : Parts → List Event → TaskId → Bool
-may_admit wiring history task = option_map_or (λ (s : Placement). (if is_concurrent s.branch.group then list_all (is_concurrent_task wiring history) (admitted wiring history s.domain) else is_none_of (admitted wiring history s.domain))) (placement_of wiring history task) false
+may_admit wiring history task =
+    option_map_or (λ (s : Placement). may_join wiring history s.branch.group (admitted wiring history s.domain)) (placement_of wiring history task) false
 
 -- whether tasks of the spot are put without an admission: those of sites, and of branches outside Interleaves
 abbrev pub needs_no_admission : Parts → Spot → Bool
@@ -79,7 +92,10 @@ needs_no_admission wiring (Site branch site) = true
 
 -- rule 11: it fired, was neither put nor cut, and was admitted where it needs to be
 abbrev pub may_put : Parts → List Event → TaskId → Bool
-may_put wiring history task = not (has_task (put history) task) && not (has_task (cut history) task) && option_map_or (λ spot. needs_no_admission wiring spot || has_task (ever_admitted history) task) (spot_of history task) false
+may_put wiring history task =
+    not (has_task (put history) task)
+    && not (has_task (cut history) task)
+    && option_map_or (λ spot. needs_no_admission wiring spot || has_task (ever_admitted history) task) (spot_of history task) false
 
 -- the oldest of the queued tasks, where a discard queue holds as many as its number or more
 abbrev pub drop_by : Policy → List TaskId → Option TaskId
@@ -96,7 +112,7 @@ is_oldest_queued wiring history task = option_map_or (λ (s : Placement). is_fir
 
 -- rule 14: the actor is no poster, is at most 32, and runs no task that it started
 abbrev pub may_start : Parts → List Event → ℕ → Bool
-may_start wiring history actor = nat_le (length wiring.posters) actor && nat_le actor 32 && is_none_of (running_by history actor)
+may_start wiring history actor = is_behind_posters wiring actor && nat_le actor most_actors && is_none_of (running_by history actor)
 
 -- whether the end is the one that the play asks for
 abbrev pub ends_so : EndHow → PlayEnd → Bool
@@ -110,9 +126,13 @@ abbrev pub is_shed : EndHow → Bool
 is_shed ends.Shed = true
 is_shed _ = false
 
+-- whether the budget is used up by so many posts and one post for each other of so many tasks that have some left
+abbrev pub is_used_up : ℕ → ℕ → ℕ → Bool
+is_used_up budget posts tasks = nat_le budget (posts + (tasks - 1))
+
 -- rule 16, shed: it has a post left to make, and the budget is used up by what tasks posted and one post for each other task that has some left
 abbrev pub may_shed : Parts → List Event → TaskId → Bool
-may_shed wiring history task = has_post_left wiring history task && nat_le wiring.budget (posts_of_tasks history + (count_unfinished wiring history - 1))
+may_shed wiring history task = has_post_left wiring history task && is_used_up wiring.budget (posts_of_tasks history) (count_unfinished wiring history)
 
 -- rule 16: shed where it may be; else no post of its play is left and it ends as its play does
 abbrev pub may_end : Parts → List Event → TaskId → EndHow → Bool

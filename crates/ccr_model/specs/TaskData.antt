@@ -47,7 +47,10 @@ load_after wiring branch segment load = record load { causes = (play_at wiring b
 -- what a task that runs this segment of the branch starts with: its messages, behind what the segment before left
 abbrev pub load_at : Parts → List Event → ℕ → ℕ → TaskId → Load
 load_at wiring history branch zero task = with_messages no_load (messages_of history task)
-load_at wiring history branch (suc site) task = with_messages (option_map_or (λ (u : TaskId). load_after wiring branch site (load_at wiring history branch site u)) (resumed history (Site branch site) task) no_load) (messages_of history task)
+load_at wiring history branch (suc site) task =
+    with_messages
+    (option_map_or (λ (u : TaskId). load_after wiring branch site (load_at wiring history branch site u)) (resumed history (Site branch site) task) no_load)
+    (messages_of history task)
 
 -- the values and causes that the task starts with
 abbrev pub load_of : Parts → List Event → TaskId → Load

@@ -1,32 +1,21 @@
 -- Who is where: each is a filter of the history.
-use Rattle.std.specs.Prelude.{ℕ, Bool, true, false, not, ◌==◌, ◌&&◌, nat_lt, List, [], ◌∷◌, ◌++◌, length, filter, flat_map, if◌then◌else◌}
+use Rattle.std.specs.Prelude.{ℕ, Bool, false, not, ◌==◌, ◌&&◌, nat_lt, List, [], ◌∷◌, ◌++◌, length, filter, flat_map, if◌then◌else◌}
 use Rattle.std.specs.List.{list_any}
 use Rattle.std.specs.Option.{option_map_or}
 use Rattle.ccr_base.specs.declared.names.TaskId.{TaskId}
 use Rattle.ccr_base.specs.declared.names.Spot.{Spot}
 use Rattle.ccr_base.specs.declared.names.Spot.TheVariants.{Branch, Site}
 use Rattle.ccr_wiring.specs.declared.parts.Parts.{Parts}
-use Rattle.ccr_base.specs.declared.policies.Group.{Group}
-use Rattle.ccr_base.specs.declared.policies.Group.TheVariants as groups
 use Rattle.ccr_model.specs.declared.history.Event.{Event}
 use Rattle.ccr_model.specs.declared.history.Event.TheVariants.{Start}
 use Rattle.ccr_base.specs.Names.{same_task, without}
 use Rattle.ccr_model.specs.Posts.{posts_of_task}
 use Rattle.ccr_wiring.specs.Wirings.{Placement, placement}
+pub use Rattle.ccr_base.specs.Groups.{is_teardown, is_concurrent}
 pub use Rattle.ccr_wiring.specs.Groups.{is_interleave}
 use Rattle.ccr_model.specs.Firings.{fired_where, cut, ever_admitted, put, dropped, started, ended, last_segments}
 use Rattle.ccr_model.specs.Sites.{root_of}
 use Rattle.ccr_model.specs.TaskData.{placement_of, play_of}
-
--- a teardown branch
-abbrev pub is_teardown : Group → Bool
-is_teardown groups.Teardown = true
-is_teardown _ = false
-
--- a concurrent branch
-abbrev pub is_concurrent : Group → Bool
-is_concurrent groups.Concurrent = true
-is_concurrent _ = false
 
 -- whether the spot is a branch whose placement passes the test
 abbrev pub is_branch_where : Parts → (Placement → Bool) → Spot → Bool

@@ -5,7 +5,7 @@ use Rattle.ccr_base.specs.declared.messages.Msg.{Msg}
 use Rattle.ccr_wiring.specs.Wirings.{Placement}
 use Rattle.ccr_model.specs.declared.data.TaskLoad.{TaskLoad}
 use Rattle.ccr_model.specs.declared.tasks.Branches.{Branches}
-use Rattle.ccr_model.specs.declared.tasks.Branches.TheVariants.{OfInterleave, OfArbiter, TeardownsOf, OfQueue}
+use Rattle.ccr_model.specs.declared.tasks.Branches.TheVariants.{OfInterleave, OfDomain, TeardownsOf, OfQueue}
 use Rattle.ccr_model.specs.TaskData.{Load}
 use Rattle.ccr_model.specs.Tasks.{is_interleave, is_teardown}
 pub use Rattle.ccr_wiring.specs.Placements.{placement_seen}
@@ -21,6 +21,6 @@ load_seen l = record { values = l.values; causes = l.causes }
 -- whether the branch is one of those that are meant
 abbrev pub means : Branches → Placement → Bool
 means (OfInterleave number) s = is_interleave s.kind && (s.domain == number)
-means (OfArbiter number) s = s.domain == number
+means (OfDomain number) s = s.domain == number
 means (TeardownsOf number) s = (s.domain == number) && is_teardown s.branch.group
 means (OfQueue queue) s = s.branch.queue == queue

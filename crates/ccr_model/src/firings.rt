@@ -264,7 +264,8 @@ pub(crate) fn messages_of(events: &[Event], task: TaskId) -> &[MsgId]
     &[]
 }
 
-fn is_shed_end(event: &Event) -> bool
+/// Whether the event is the end of a task that was shed.
+pub fn is_shed_end(event: &Event) -> bool
     ensures { result ≡ is_shed_end event.now }
 {
     match event {

@@ -1,6 +1,6 @@
 //! Laws over every legal history. Each is the contract of a function that does nothing.
 
-ghost use Rattle.std.specs.Prelude.{◌≡◌, ◌≤◌, ◌+◌, ℕ, List, Some, None, Option, true, length};
+ghost use Rattle.std.specs.Prelude.{◌≡◌, ◌≤◌, ◌+◌, ℕ, List, None, true, length};
 ghost use Rattle.ccr_base.specs.Bounds.{most_actors};
 ghost use Rattle.ccr_wiring.specs.declared.parts.Parts.{Parts};
 ghost use Rattle.ccr_base.specs.declared.names.MsgId.{MsgId};

@@ -1,6 +1,7 @@
 //! Events, histories, which event is allowed after which history, and the serial order.
 #![tactic(auto)]
 
+pub mod alike;
 pub mod choices;
 pub mod data;
 pub mod enough;

@@ -17,17 +17,17 @@ fn is_live_in(
     wiring: &Wiring,
     events: &[Event],
     branch: BranchNo,
-    arbiter: usize,
+    domain: usize,
     group: Group,
 ) -> Result<bool, OutOfMemory>
-    ensures { IfOk result (λ live. live ≡ is_live_in wiring.now events.now branch arbiter group) }
+    ensures { IfOk result (λ live. live ≡ is_live_in wiring.now events.now branch domain group) }
 {
     let fired = match group {
         Group::Always => return Ok(true),
         Group::Once => fired_at(alloc, events, Spot::Branch(branch))?,
-        Group::Choice => fired_by(alloc, wiring, events, Branches::OfArbiter(arbiter))?,
+        Group::Choice => fired_by(alloc, wiring, events, Branches::OfDomain(domain))?,
         Group::Teardown | Group::Exclusive | Group::Concurrent => {
-            fired_by(alloc, wiring, events, Branches::TeardownsOf(arbiter))?
+            fired_by(alloc, wiring, events, Branches::TeardownsOf(domain))?
         }
     };
     Ok(fired.is_empty())

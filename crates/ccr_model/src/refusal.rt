@@ -1,15 +1,15 @@
 //! The first rule that refuses an event.
 
 ghost use Rattle.std.specs.Prelude.{◌≡◌, IfOk, option_map};
-ghost use Rattle.ccr_base.specs.Names.{same_options, same_task};
 ghost use Rattle.ccr_model.specs.Rules.{number_of, refusal, refusal_of_post};
 
+use crate::alike::{are_same_tasks, is_same_drop};
 use crate::choices::is_choice;
 use crate::firings::has_task;
 use crate::live::{has_room, is_live};
 use crate::rules::{
-    are_same_tasks, cuts_at, drop_at, has_budget, is_new, is_oldest_queued, is_oldest_waiting,
-    is_play_post, is_script_line, may_admit, may_end, may_put, may_start,
+    cuts_at, drop_at, has_budget, is_new, is_oldest_queued, is_oldest_waiting, is_play_post,
+    is_script_line, may_admit, may_end, may_put, may_start,
 };
 use crate::tasks::running;
 use crate::{EndHow, Event, History, Rule};
@@ -106,16 +106,6 @@ fn refusal_of_put(
         return Ok(Some(Rule::DueDrop));
     }
     Ok(None)
-}
-
-fn is_same_drop(dropped: Option<TaskId>, due: Option<TaskId>) -> bool
-    ensures { result ≡ same_options same_task dropped due }
-{
-    match (dropped, due) {
-        (None, None) => true,
-        (Some(task), Some(other)) => task == other,
-        _ => false,
-    }
 }
 
 fn refusal_of_start(

@@ -1,10 +1,10 @@
 //! Which rule refuses an event.
 
-ghost use Rattle.std.specs.Prelude.{◌≡◌, ◌==◌, IfOk};
+ghost use Rattle.std.specs.Prelude.{◌≡◌, IfOk};
 ghost use Rattle.std.specs.List.{list_all};
-ghost use Rattle.ccr_base.specs.Names.{same_task, same_lists};
-ghost use Rattle.ccr_model.specs.Rules.{is_post, is_script_line, is_play_post, has_budget, is_new, cuts_at, is_first, is_oldest_waiting, is_concurrent_task, may_admit, needs_no_admission, may_put, drop_by, drop_at, is_oldest_queued, may_start, ends_so, is_shed, may_shed, may_end, refusal_of_post, refusal};
+ghost use Rattle.ccr_model.specs.Rules.{is_script_line, is_play_post, has_budget, is_new, cuts_at, is_first, is_oldest_waiting, is_concurrent_task, may_admit, needs_no_admission, may_put, drop_by, drop_at, is_oldest_queued, may_start, ends_so, is_used_up, may_shed, may_end};
 
+use crate::alike::is_post;
 use crate::data::play_of;
 use crate::firings::{cut, ever_admitted, fired, has_task, put, spot_of};
 use crate::placements::{is_concurrent, is_interleave, is_teardown};
@@ -13,59 +13,29 @@ use crate::tasks::{
     admitted, count_unfinished, has_post_left, placement_of, queued, running, running_by, waiting,
 };
 use crate::{EndHow, Event};
-use ccr_base::{
-    ActorNo, CauseNo, Msg, MsgId, OutOfMemory, Policy, PortNo, Sent, Spot, TaskId, Value,
-};
+use ccr_base::{ActorNo, Msg, OutOfMemory, Policy, Spot, TaskId};
 use ccr_handler::PlayEnd;
 use ccr_wiring::{MAX_ACTOR, Wiring};
 use std::alloc::Global;
-
-fn are_same_causes(causes: &[CauseNo], others: &[CauseNo]) -> bool
-    ensures { result ≡ same_lists (λ cause other. cause == other) causes.now others.now }
-{
-    match (causes, others) {
-        ([], []) => true,
-        ([cause, causes @ ..], [other, others @ ..]) => {
-            cause == other && are_same_causes(causes, others)
-        }
-        _ => false,
-    }
-}
-
-/// Whether the message is what is sent so, but for its name.
-fn is_sent(message: &Msg, port: PortNo, value: &Value, causes: &[CauseNo]) -> bool
-    ensures { result ≡ is_post message.now (record { port = port; value = value.now; causes = causes.now }) }
-{
-    message.port == port
-        && message.value == *value
-        && are_same_causes(message.causes.as_slice(), causes)
-}
-
-/// Whether the message is the post, but for its name.
-fn is_post(message: &Msg, sent: &Sent) -> bool
-    ensures { result ≡ is_post message.now sent.now }
-{
-    is_sent(message, sent.port, &sent.value, sent.causes.as_slice())
-}
 
 /// Whether the message is the poster's next line.
 pub(crate) fn is_script_line(
     wiring: &Wiring,
     events: &[Event],
     actor: ActorNo,
-    place: u32,
+    index: u32,
     message: &Msg,
 ) -> bool
-    ensures { result ≡ is_script_line wiring.now events.now actor place message.now }
+    ensures { result ≡ is_script_line wiring.now events.now actor index message.now }
 {
-    if place as usize != posts_of_poster(events, actor) {
+    if index as usize != posts_of_poster(events, actor) {
         return false;
     }
     let Some(poster) = wiring.parts().posters.as_slice().get(actor as usize) else {
         return false;
     };
-    match poster.posts.as_slice().get(place as usize) {
-        Some(sent) => is_sent(message, sent.port(), &sent.value(), sent.causes()),
+    match poster.posts.as_slice().get(index as usize) {
+        Some(sent) => is_post(message, sent.port(), &sent.value(), sent.causes()),
         None => false,
     }
 }
@@ -76,20 +46,20 @@ pub(crate) fn is_play_post(
     wiring: &Wiring,
     events: &[Event],
     task: TaskId,
-    place: u32,
+    index: u32,
     message: &Msg,
 ) -> Result<bool, OutOfMemory>
-    ensures { IfOk result (λ is. is ≡ is_play_post wiring.now events.now task place message.now) }
+    ensures { IfOk result (λ is. is ≡ is_play_post wiring.now events.now task index message.now) }
 {
     if !has_task(&running(alloc, events)?, task) {
         return Ok(false);
     }
-    if place as usize != posts_of_task(events, task) {
+    if index as usize != posts_of_task(events, task) {
         return Ok(false);
     }
     let play = play_of(alloc, wiring, events, task)?;
-    match play.posts.as_slice().get(place as usize) {
-        Some(sent) => Ok(is_post(message, sent)),
+    match play.posts.as_slice().get(index as usize) {
+        Some(sent) => Ok(is_post(message, sent.port, &sent.value, sent.causes.as_slice())),
         None => Ok(false),
     }
 }
@@ -124,18 +94,6 @@ pub fn cuts_at(
         }
     }
     Ok(Vec::new(alloc))
-}
-
-pub(crate) fn are_same_tasks(tasks: &[TaskId], others: &[TaskId]) -> bool
-    ensures { result ≡ same_lists same_task tasks.now others.now }
-{
-    match (tasks, others) {
-        ([], []) => true,
-        ([task, tasks @ ..], [other, others @ ..]) => {
-            task == other && are_same_tasks(tasks, others)
-        }
-        _ => false,
-    }
 }
 
 fn is_first(tasks: &[TaskId], task: TaskId) -> bool
@@ -201,7 +159,8 @@ pub fn may_admit(
     }
 }
 
-fn needs_no_admission(wiring: &Wiring, spot: Spot) -> bool
+/// Whether tasks of the spot are put without an admission.
+pub fn needs_no_admission(wiring: &Wiring, spot: Spot) -> bool
     ensures { result ≡ needs_no_admission wiring.now spot }
 {
     let Spot::Branch(branch) = spot else {
@@ -293,9 +252,8 @@ pub(crate) fn may_start(
 ) -> Result<bool, OutOfMemory>
     ensures { IfOk result (λ may. may ≡ may_start wiring.now events.now actor) }
 {
-    let posters = wiring.parts().posters.as_slice().len();
     let running = running_by(alloc, events, actor)?;
-    Ok(posters <= actor as usize && actor <= MAX_ACTOR && running.is_empty())
+    Ok(wiring.is_behind_posters(actor) && actor <= MAX_ACTOR && running.is_empty())
 }
 
 /// Whether the end is the one that the play asks for.
@@ -310,6 +268,13 @@ pub fn ends_so(how: &EndHow, end: &PlayEnd) -> bool
     }
 }
 
+/// Whether the budget is used up by so many posts and one post for each other of so many tasks that have some left.
+pub fn is_used_up(budget: u32, posts: usize, tasks: usize) -> bool
+    ensures { result ≡ is_used_up budget posts tasks }
+{
+    (budget as usize).saturating_sub(posts) <= tasks.saturating_sub(1)
+}
+
 fn may_shed(
     alloc: Global,
     wiring: &Wiring,
@@ -321,9 +286,8 @@ fn may_shed(
     if !has_post_left(alloc, wiring, events, task)? {
         return Ok(false);
     }
-    let others = count_unfinished(alloc, wiring, events)?.saturating_sub(1);
-    let budget = wiring.parts().budget as usize;
-    Ok(budget.saturating_sub(posts_of_tasks(events)) <= others)
+    let tasks = count_unfinished(alloc, wiring, events)?;
+    Ok(is_used_up(wiring.parts().budget, posts_of_tasks(events), tasks))
 }
 
 pub(crate) fn may_end(

@@ -1,7 +1,6 @@
 //! Who is suspended, whom a firing at a site resumes, and the root of a task.
 
 ghost use Rattle.std.specs.Prelude.{◌≡◌, IfOk, drop};
-ghost use Rattle.std.specs.Option.{option_map_or};
 ghost use Rattle.ccr_base.specs.Names.{same_spot};
 ghost use Rattle.ccr_wiring.specs.Wirings.{branch_of, segment_of, next_site};
 ghost use Rattle.ccr_model.specs.Sites.{yields_at, yielded_at, suspended, resumed, root_at, root_of};

@@ -2,7 +2,6 @@
 
 ghost use Rattle.std.specs.Prelude.{◌≡◌, IfOk};
 ghost use Rattle.std.specs.Option.{option_map};
-ghost use Rattle.ccr_base.specs.Names.{same_task};
 ghost use Rattle.ccr_model.specs.TaskData.{placement_of};
 ghost use Rattle.ccr_model.specs.Tasks.{is_branch_where, fired_by, waiting, is_for_queue, queued, running, running_by, is_over, is_of_domain, admitted, coming, has_post_left, count_unfinished};
 ghost use Rattle.ccr_model.specs.Views.{placement_seen, means};
@@ -24,7 +23,7 @@ use std::alloc::Global;
 #[derive(Clone, Copy)]
 pub(crate) enum Branches {
     OfInterleave(usize),
-    OfArbiter(usize),
+    OfDomain(usize),
     TeardownsOf(usize),
     OfQueue(QueueNo),
 }
@@ -35,7 +34,7 @@ fn means(which: Branches, placement: &PlacementOf<'_>) -> bool
     match which {
         Branches::OfInterleave(number) => is_interleave(placement.kind)
             && placement.domain == number,
-        Branches::OfArbiter(number) => placement.domain == number,
+        Branches::OfDomain(number) => placement.domain == number,
         Branches::TeardownsOf(number) => {
             placement.domain == number && is_teardown(placement.branch.group)
         }
@@ -163,11 +162,11 @@ fn is_over(alloc: Global, events: &[Event], root: TaskId) -> Result<bool, OutOfM
     Ok(false)
 }
 
-fn is_of_domain(wiring: &Wiring, events: &[Event], arbiter: usize, task: TaskId) -> bool
-    ensures { result ≡ is_of_domain wiring.now events.now arbiter task }
+fn is_of_domain(wiring: &Wiring, events: &[Event], domain: usize, task: TaskId) -> bool
+    ensures { result ≡ is_of_domain wiring.now events.now domain task }
 {
     match placement_of(wiring, events, task) {
-        Some(placement) => placement.domain == arbiter,
+        Some(placement) => placement.domain == domain,
         None => false,
     }
 }

@@ -1,5 +1,5 @@
 -- That each ask of a run meets the condition of its place.
-pub mod BranchesHaveSeats
+pub mod BranchesHavePositions
 pub mod SlotPortsDiffer
 pub mod CommitsMeetConditions
 pub mod RunsStayReady

@@ -5,4 +5,3 @@ pub mod PlacesAreKnown
 pub mod StatesAreKnown
 pub mod AsksAreKnown
 pub mod RunsAreKnown
-pub mod RepliesAreKnown

@@ -11,6 +11,3 @@ pub mod AttemptNamesAreNew
 pub mod OwedAtOwnPlaces
 pub mod PostersAreCounted
 pub mod PostsAreBounded
-pub mod CostsAreOwed
-pub mod CutsAreFew
-pub mod ServingKeepsRoom

@@ -1,10 +1,10 @@
 -- What ties the notes of places and the course of actors to the visible history, part by part.
 pub mod OneMoreEntry
 pub mod PostsKeepMarks
-pub mod Invariant
+pub mod PortsAndHandsMatch
 pub mod StepsKeepPorts
 pub mod StepsKeepActors
-pub mod HeldApart
+pub mod NamesStandAtOnePort
 pub mod GotNamesStandAlone
 pub mod TasksStartOnce
 pub mod WorkMatches
@@ -18,4 +18,4 @@ pub mod MeterMatches
 pub mod PhasesFitPlans
 pub mod TasksAreBookedOnce
 pub mod GotIsAChoice
-pub mod NotesGiven
+pub mod NotesAnswerAsks

@@ -12,13 +12,12 @@ pub mod DomainsAnswer
 pub mod SitesAnswer
 pub mod HoldersOfTasksAnswer
 pub mod PlacesByNumber
-pub mod NextSteps
+pub mod NextAsksAreAnswered
 pub mod PlayedRunsAreRuns
-pub mod LacksElsewhere
+pub mod RunsFollowTheirSteps
 pub mod PortsAnswer
 pub mod ArbitersBeginAlike
 pub mod ArbitersAnswer
 pub mod NextAsksAreMet
 pub mod EachPlaceAnswers
 pub mod PlayedRunsGoOn
-pub mod RefusedActorsGoOn

@@ -1,5 +1,5 @@
 -- Worked runs, computed step by step.
-pub mod RunWords
+pub mod WiringsInShort
 pub mod Rivals
 pub mod Taker
 pub mod TakerIsLegal

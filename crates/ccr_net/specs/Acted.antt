@@ -2,6 +2,7 @@
 use Rattle.std.specs.Prelude.{◌≡◌, ◌≤◌, ℕ, suc, max, true, ◌==◌, cond, List, [], ◌∷◌, length, map, slice_get, slice_index}
 use Rattle.std.specs.Option.{option_map_or}
 use Rattle.std.specs.declared.snapshot.Snapshot.{Snapshot}
+use Rattle.ccr_base.specs.Bounds.{most_actors}
 use Rattle.ccr_base.specs.declared.names.Place.{Place}
 use Rattle.ccr_wiring.specs.declared.parts.Parts.{Parts}
 use Rattle.ccr_claim.specs.declared.asks.Ask.{Ask}
@@ -77,7 +78,7 @@ pub record IsLeft (wiring : Parts) (places : List Place) (objects : List PlaceOb
   pub all : places ≡ places_of wiring
   pub count : length objects ≡ length places
   pub place_count : length place_stamps ≡ length places
-  pub actor_count : length actor_stamps ≡ 32
+  pub actor_count : length actor_stamps ≡ most_actors
   pub stand : (number : ℕ) → placed_in objects number ≡ (scene_after wiring acts number).0
   pub place_last : (number : ℕ) → slice_index place_stamps number ≡ (scene_after wiring acts number).1
   pub actor_last : (actor : ℕ) → slice_index actor_stamps actor ≡ stamp_of actor acts

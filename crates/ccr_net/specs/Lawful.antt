@@ -1,6 +1,7 @@
 -- What a law is about: runs of a valid wiring.
-use Rattle.std.specs.Prelude.{◌≡◌, ◌<◌, ◌≤◌, ◌+◌, ℕ, List, [], length, Some}
+use Rattle.std.specs.Prelude.{◌≡◌, ◌<◌, ◌≤◌, ℕ, List, [], Some}
 use Rattle.ccr_base.specs.Bounds.{most_workers}
+use Rattle.ccr_wiring.specs.Actors.{actor_count}
 use Rattle.ccr_wiring.specs.declared.parts.Parts.{Parts}
 use Rattle.ccr_wiring.specs.Valid.{IsValid}
 use Rattle.ccr_claim.specs.declared.asks.Asked.{Asked}
@@ -21,7 +22,7 @@ OfRuns law = (wiring : Parts) (workers : ℕ) (entries : List Entry) → IsValid
 abbrev pub WhereAskedNext : Parts → ℕ → Lacks → List Entry → ℕ → Asked → Type 0 → Type 0
 WhereAskedNext wiring workers lacks entries actor one law =
     IsRunAfter wiring workers lacks [] entries →
-    actor < length wiring.posters + workers →
+    actor < actor_count wiring workers →
     next wiring actor (lacks actor) (replies_of wiring entries actor) ≡ Some one →
     law
 
@@ -35,12 +36,17 @@ OfNextAsks law =
 
 -- the acts are a run as the objects of the places play it
 abbrev pub IsPlayedRun : Parts → ℕ → Lacks → List (Act Deed) → Type 0
-IsPlayedRun wiring workers lacks acts = IsRunFrom (protocol wiring lacks) (length wiring.posters + workers) (scene wiring) (cast (protocol wiring lacks)) acts
+IsPlayedRun wiring workers lacks acts = IsRunFrom (protocol wiring lacks) (actor_count wiring workers) (scene wiring) (cast (protocol wiring lacks)) acts
 
 -- the law holds of each such run
 abbrev pub OfPlayedRuns : (Parts → ℕ → Lacks → List (Act Deed) → Type 0) → Type 0
-OfPlayedRuns law = (wiring : Parts) (workers : ℕ) (lacks : Lacks) (acts : List (Act Deed)) → IsValid wiring → workers ≤ most_workers → IsPlayedRun wiring workers lacks acts → law wiring workers lacks acts
+OfPlayedRuns law =
+    (wiring : Parts) (workers : ℕ) (lacks : Lacks) (acts : List (Act Deed))
+    → IsValid wiring
+    → workers ≤ most_workers
+    → IsPlayedRun wiring workers lacks acts
+    → law wiring workers lacks acts
 
 -- each actor's steps are what it asks next where the actors lack memory so
 abbrev pub AreNextToo : Parts → ℕ → Lacks → List (Act Deed) → Type 0
-AreNextToo wiring workers lacks acts = (actor : ℕ) → actor < length wiring.posters + workers → AreNext wiring actor (lacks actor) [] (steps_in wiring acts actor)
+AreNextToo wiring workers lacks acts = (actor : ℕ) → actor < actor_count wiring workers → AreNext wiring actor (lacks actor) [] (steps_in wiring acts actor)

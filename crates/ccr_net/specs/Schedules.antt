@@ -1,7 +1,8 @@
 -- Turns of actors at the places on one thread.
-use Rattle.std.specs.Prelude.{◌≡◌, ◌≤◌, ℕ, ◌+◌, Bool, true, false, List, [], ◌∷◌, ◌++◌, length, slice_get, Option, Some, None, Ok}
+use Rattle.std.specs.Prelude.{◌≡◌, ◌≤◌, ℕ, Bool, true, false, List, [], ◌∷◌, ◌++◌, length, slice_get, Option, Some, None, Ok}
 use Rattle.std.specs.Option.{is_some}
 use Rattle.ccr_base.specs.declared.names.Place.{Place}
+use Rattle.ccr_wiring.specs.Actors.{actor_count}
 use Rattle.ccr_wiring.specs.declared.parts.Parts.{Parts}
 use Rattle.ccr_wiring.specs.Valid.{IsValid}
 use Rattle.ccr_claim.specs.declared.asks.Ask.{Ask}
@@ -56,7 +57,7 @@ pub record IsActing (wiring : Parts) (lacks : Lacks) (entries : List Entry) (k :
 -- the acts are a run, the entries are theirs, and each actor stands where these lead it
 pub record IsPlayed (workers : ℕ) (lacks : Lacks) (stage : PlainState) (actors : List Acting) (entries : List Entry) : Type 0 where
   pub valid : IsValid stage.wiring
-  pub run : IsRunFrom (protocol stage.wiring lacks) (length stage.wiring.posters + workers) (scene stage.wiring) (cast (protocol stage.wiring lacks)) stage.acts
+  pub run : IsRunFrom (protocol stage.wiring lacks) (actor_count stage.wiring workers) (scene stage.wiring) (cast (protocol stage.wiring lacks)) stage.acts
   pub same : entries ≡ entries_of stage.wiring stage.acts
-  pub count : length actors ≡ length stage.wiring.posters + workers
+  pub count : length actors ≡ actor_count stage.wiring workers
   pub acting : (k : ℕ) (a : Acting) → slice_get actors k ≡ Some a → IsActing stage.wiring lacks entries k a

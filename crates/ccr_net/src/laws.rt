@@ -1,7 +1,8 @@
 //! What holds of every run. Each law is the contract of a function that does nothing.
 
-ghost use Rattle.std.specs.Prelude.{◌≡◌, ◌≤◌, ◌+◌, ℕ, length, true, All, [], Some, slice_get};
+ghost use Rattle.std.specs.Prelude.{◌≡◌, ◌≤◌, ℕ, true, All, [], Some, slice_get};
 ghost use Rattle.std.specs.Option.{is_some};
+ghost use Rattle.ccr_wiring.specs.Actors.{actor_count};
 ghost use Rattle.ccr_model.specs.Firings.{fired};
 ghost use Rattle.ccr_model.specs.Legal.{IsLegal, is_covered};
 ghost use Rattle.ccr_model.specs.Order.{next_attempt};
@@ -24,7 +25,7 @@ pub fn visible_runs_are_legal_and_covered()
 
 /// The actor behind the posters and the workers fires nothing in a run, so it may finish what is visible of it.
 pub fn closers_are_new_to_runs()
-    ensures attempts { OfRuns (λ wiring workers entries. next_attempt (length wiring.posters + workers) (fired (visible entries)) ≤ 1) }
+    ensures attempts { OfRuns (λ wiring workers entries. next_attempt (actor_count wiring workers) (fired (visible entries)) ≤ 1) }
 {}
 
 /// The next ask of each actor of a run meets the condition of its place: the place has a note for it. So each step that an

@@ -1,17 +1,18 @@
 //! The objects of all places on one thread, and what they did.
 
-ghost use Rattle.std.specs.Prelude.{◌≡◌, ◌≢◌, ◌<◌, ◌≤◌, ◌+◌, ◌^◌, ℕ, suc, max, true, [], ◌∷◌, ◌++◌, length, slice_index, IfOk, OnOk, OnErr, IsOk, Some, is_some};
+ghost use Rattle.std.specs.Prelude.{◌≡◌, ◌≢◌, ◌<◌, ◌≤◌, ◌+◌, ℕ, suc, max, true, [], ◌∷◌, ◌++◌, length, slice_index, IfOk, OnOk, OnErr, IsOk, Some, is_some};
 ghost use Rattle.ccr_base.specs.Bounds.{most_actors};
 ghost use Rattle.ccr_claim.specs.Asks.{due_of, fits, is_settling};
 ghost use Rattle.ccr_object.specs.declared.deed.PlaceAnswer.TheVariants.{Replied};
 ghost use Rattle.ccr_object.specs.Objects.{after_at, is_due, note_of, reply_of};
 ghost use Rattle.ccr_net.specs.Acted.{act_after, deed_at, placed_in, scene_after, IsFitting};
 ghost use Rattle.ccr_runs.specs.Played.{entry_of, number_at};
+ghost use Rattle.ccr_turns.specs.Histories.{stamp_limit};
 
 use ccr_base::{ActorNo, OutOfMemory, Place};
 use ccr_claim::{Ask, Reply};
 use ccr_object::{Deed, PlaceAnswer, PlaceObject, place_objects};
-use ccr_runs::{Act, Directory, Entry};
+use ccr_runs::{Act, Directory, Entry, entry_at};
 use ccr_wiring::Wiring;
 use std::alloc::Global;
 use std::marker::Model;
@@ -20,10 +21,10 @@ use std::snapshot::Snapshot;
 /// So many actors there can be: 16 posters and 16 workers.
 const ACTORS: usize = 32;
 
-/// The objects of all places of a wiring. Contracts see the acts so far, which take no memory, and for how many more
-/// there is room.
+/// The objects of all places of a wiring, on one thread and without locks. Contracts see the acts so far, which take no
+/// memory, and for how many more there is room.
 #[derive(Drop)]
-pub(crate) struct PlainPlaces<'w> {
+pub struct PlainPlaces<'w> {
     wiring: &'w Wiring,
     directory: Directory,
     objects: Vec<PlaceObject>,
@@ -118,20 +119,8 @@ impl<'w> PlainPlaces<'w> {
     pub fn entry(&self, act: Act<Deed>) -> Option<Entry>
         ensures { result ≡ entry_of self.now.wiring act }
     {
-        let Act {
-            place,
-            seat,
-            stamp,
-            note: deed,
-        } = act;
-        let Deed { note, ask: _ } = deed;
-        let note = note?;
-        Some(Entry {
-            actor: seat,
-            place: self.directory.place(place),
-            stamp,
-            note,
-        })
+        let place = self.directory.place(act.place);
+        entry_at(place, act)
     }
 
     /// The reply to an ask whose condition is met, and the entry of its act.
@@ -179,8 +168,8 @@ fn zeros(alloc: Global, count: usize) -> Result<Vec<u128>, OutOfMemory>
 fn next_stamp(places: &[u128], actors: &[u128], number: u32, actor: ActorNo) -> u128
     requires place { number < length places.now }
     requires actor { actor < length actors.now }
-    requires place_few { slice_index places.now number < 2 ^ 100 }
-    requires actor_few { slice_index actors.now actor < 2 ^ 100 }
+    requires place_few { slice_index places.now number < stamp_limit }
+    requires actor_few { slice_index actors.now actor < stamp_limit }
     ensures { result ≡ suc (max (slice_index places.now number) (slice_index actors.now actor)) }
 {
     places[number as usize].max(actors[actor as usize]) + 1

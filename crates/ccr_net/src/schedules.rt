@@ -1,10 +1,11 @@
 //! Runs by a schedule of turns, on one thread.
 
-ghost use Rattle.std.specs.Prelude.{◌≡◌, ◌<◌, ◌≤◌, ◌+◌, [], All, length, IfOk, OnOk, Some, Ok, true, false};
+ghost use Rattle.std.specs.Prelude.{◌≡◌, ◌<◌, ◌≤◌, [], All, length, IfOk, OnOk, Ok, true, false};
 ghost use Rattle.std.specs.Option.{is_some};
 ghost use Rattle.ccr_base.specs.Bounds.{most_actors, most_workers};
+ghost use Rattle.ccr_wiring.specs.Actors.{actor_count};
 ghost use Rattle.ccr_claim.specs.Asks.{due_of, fits};
-ghost use Rattle.ccr_actor.specs.Acting.{due_in, next, quiet, started, IsAfter};
+ghost use Rattle.ccr_actor.specs.Acting.{due_in, next, quiet, IsAfter};
 ghost use Rattle.ccr_object.specs.Objects.{note_of};
 ghost use Rattle.ccr_net.specs.Acted.{scene_after};
 ghost use Rattle.ccr_runs.specs.Played.{number_at};
@@ -28,7 +29,7 @@ pub fn run_schedule(
     turns: &[ActorNo],
 ) -> Result<Full, OutOfMemory>
     requires workers { workers ≤ most_workers }
-    requires turns { All (λ turn. turn < length wiring.now.posters + workers) turns.now }
+    requires turns { All (λ turn. turn < actor_count wiring.now workers) turns.now }
     ensures scheduled { IfOk result (λ full. full.entries ≡ scheduled wiring.now turns.now) }
     ensures run { IfOk result (λ full. IsRunAfter wiring.now workers never [] full.entries) }
 {
@@ -44,8 +45,8 @@ pub fn run_schedule(
     })
 }
 
-/// So many actors before their first steps.
-pub(crate) fn all_actors<'w>(
+/// The actors of so many numbers from 0 on, posters first, before their first steps.
+pub fn all_actors<'w>(
     alloc: Global,
     wiring: &'w Wiring,
     count: u32,
@@ -96,8 +97,9 @@ fn make_step(
     answer(places, actor, entries, place, ask)
 }
 
-/// Lets the place answer what the actor asked.
-pub(crate) fn answer(
+/// Lets the place answer what the actor asked: the entry is added, and the actor takes in the reply. It is out of memory, too,
+/// where the actor finds none for its next ask.
+pub fn answer(
     places: &mut PlainPlaces<'_>,
     actor: &mut Actor<'_>,
     entries: &mut Vec<Entry>,

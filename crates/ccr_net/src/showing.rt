@@ -20,7 +20,8 @@ pub fn visible(alloc: Global, wiring: &Wiring, full: &Full) -> Result<History, O
     ensures legal { IfOk result (λ history. (workers : ℕ) → workers ≤ most_workers → IsRun wiring.now workers full.now.entries → IsLegal wiring.now history) }
     ensures covered { IfOk result (λ history. (workers : ℕ) → workers ≤ most_workers → IsRun wiring.now workers full.now.entries → is_covered wiring.now history ≡ true) }
 {
-    let _parts = wiring.parts();
+    // `parts` says that the wiring is valid, on which the promises stand.
+    let _valid = wiring.parts();
     let history = history_of(alloc, full)?;
     Ok(history)
 }

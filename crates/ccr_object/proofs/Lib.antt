@@ -1,5 +1,5 @@
 pub mod Numbering
-pub mod Few
+pub mod FewSpotsAndPlaces
 pub mod Cuts
-pub mod Due
-pub mod Kept
+pub mod RepliesFitAsks
+pub mod PlacesKeepKnownNames

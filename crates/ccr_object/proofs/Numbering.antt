@@ -13,19 +13,19 @@ use Rattle.ccr_base.specs.declared.names.Spot.{Spot}
 use Rattle.ccr_base.specs.declared.names.Spot.TheVariants.{Branch, Site}
 use Rattle.ccr_base.specs.declared.tasks.Cut.{Cut}
 use Rattle.ccr_base.specs.declared.tasks.Task.{Task}
+use Rattle.ccr_base.specs.Lists.{are_apart}
 use Rattle.ccr_wiring.specs.declared.parts.ArbiterPart.{ArbiterPart}
 use Rattle.ccr_wiring.specs.declared.parts.BranchPart.{BranchPart}
 use Rattle.ccr_wiring.specs.declared.parts.Kind.{Kind}
 use Rattle.ccr_wiring.specs.declared.parts.Parts.{Parts}
 use Rattle.ccr_wiring.specs.Domains.{domain_of}
-use Rattle.ccr_wiring.specs.Repeats.{are_apart}
 use Rattle.ccr_wiring.specs.Wirings.{Placement, placements, placements_from, in_domain, awaited, actions_of}
 use Rattle.ccr_claim.specs.declared.asks.Ask.{Ask}
 use Rattle.ccr_claim.specs.declared.asks.Ask.TheVariants as asks
 use Rattle.ccr_claim.specs.declared.asks.Reply.{Reply}
 use Rattle.ccr_claim.specs.declared.asks.Reply.TheVariants as replies
 use Rattle.ccr_claim.specs.Wired.{IsSpotOf, AreCausesOf, IsDomainOf, IsMessageOf, IsTaskOf, HasQueueOf, IsHandedOf, IsKnown, IsReplyOf}
-use Rattle.ccr_object.specs.Numbers.{Known, numbers_of, no_numbers, domain_tests, has_domain, site_count, site_counts, arbiter_sites, has_spot, has_each, has_causes, has_message, has_task, has_handed, has_cut, is_known, names_known}
+use Rattle.ccr_object.specs.Numbers.{Known, numbers_of, no_numbers, domain_tests, has_domain, site_count, site_counts, arbiter_sites, has_spot, has_each, has_causes, knows_message, knows_task, has_handed, has_cut, is_known, names_known}
 
 module _ (wiring : Parts) where
   one_arbiter : (arbiter : ℕ) (kind : Kind) (branches : List BranchPart) (rest : List Placement)
@@ -139,20 +139,20 @@ module _ (wiring : Parts) where
   causes_from : (causes : List ℕ) → AreCausesOf wiring causes → has_causes (numbers_of wiring) causes ≡ true
   causes_from causes k = and_from (has_each (length wiring.causes) causes) (are_apart causes) (each_from (length wiring.causes) causes k.0) k.1
 
-  message_to : (m : Msg) → has_message (numbers_of wiring) m ≡ true → IsMessageOf wiring m
+  message_to : (m : Msg) → knows_message (numbers_of wiring) m ≡ true → IsMessageOf wiring m
   message_to m e = let p = and_parts (nat_lt m.port (length wiring.ports)) (has_causes (numbers_of wiring) m.causes) e in (ltb-true m.port (length wiring.ports) p.0, causes_to m.causes p.1)
 
-  message_from : (m : Msg) → IsMessageOf wiring m → has_message (numbers_of wiring) m ≡ true
+  message_from : (m : Msg) → IsMessageOf wiring m → knows_message (numbers_of wiring) m ≡ true
   message_from m k = and_from (nat_lt m.port (length wiring.ports)) (has_causes (numbers_of wiring) m.causes) (lt-ltb m.port (length wiring.ports) k.0) (causes_from m.causes k.1)
 
-  task_to : (t : Task) → has_task (numbers_of wiring) t ≡ true → IsTaskOf wiring t
+  task_to : (t : Task) → knows_task (numbers_of wiring) t ≡ true → IsTaskOf wiring t
   task_to t e =
       let p = and_parts _ (has_causes (numbers_of wiring) t.causes) e in
       let q = and_parts _ (nat_lt t.queue (length wiring.queues)) p.0 in
       let r = and_parts (has_spot (numbers_of wiring) t.spot) (has_domain (numbers_of wiring) t.arbiter) q.0 in
       (spot_to t.spot r.0, domain_to t.arbiter r.1, ltb-true t.queue (length wiring.queues) q.1, causes_to t.causes p.1)
 
-  task_from : (t : Task) → IsTaskOf wiring t → has_task (numbers_of wiring) t ≡ true
+  task_from : (t : Task) → IsTaskOf wiring t → knows_task (numbers_of wiring) t ≡ true
   task_from t k =
       and_from ((has_spot (numbers_of wiring) t.spot && has_domain (numbers_of wiring) t.arbiter) && nat_lt t.queue (length wiring.queues)) (has_causes (numbers_of wiring) t.causes)
       (and_from (has_spot (numbers_of wiring) t.spot && has_domain (numbers_of wiring) t.arbiter) (nat_lt t.queue (length wiring.queues))
@@ -208,13 +208,13 @@ all_from p P each [] all = refl
 all_from p P each (x ∷ xs) all = and_from (p x) (list_all p xs) (each x (All-head P x xs all)) (all_from p P each xs (All-tail P x xs all))
 
 -- a reply that names only numbers of which each is the wiring's
-module _ (wiring : Parts) (known : Known) (message_of : (m : Msg) → has_message known m ≡ true → IsMessageOf wiring m) (task_of : (t : Task) → has_task known t ≡ true → IsTaskOf wiring t) (cut_of : (c : Cut) → has_cut known c ≡ true → HasQueueOf wiring c) where
+module _ (wiring : Parts) (known : Known) (message_of : (m : Msg) → knows_message known m ≡ true → IsMessageOf wiring m) (task_of : (t : Task) → knows_task known t ≡ true → IsTaskOf wiring t) (cut_of : (c : Cut) → has_cut known c ≡ true → HasQueueOf wiring c) where
   handed_of : (o : Option Task) → has_handed known o ≡ true → IsHandedOf wiring o
   handed_of None e = tt
   handed_of (Some t) e = task_of t e
 
   reply_of : (reply : Reply) → names_known known reply ≡ true → IsReplyOf wiring reply
-  reply_of (replies.Got ms) e = all_to (has_message known) (IsMessageOf wiring) message_of ms e
+  reply_of (replies.Got ms) e = all_to (knows_message known) (IsMessageOf wiring) message_of ms e
   reply_of (replies.Fired o cs) e = let parts = and_parts (has_handed known o) (list_all (has_cut known) cs) e in (handed_of o parts.0, all_to (has_cut known) (HasQueueOf wiring) cut_of cs parts.1)
   reply_of (replies.Admitted o) e = handed_of o e
   reply_of (replies.Dropped o) e = handed_of o e
@@ -248,7 +248,7 @@ handed_from wiring None k = refl
 handed_from wiring (Some t) k = task_from wiring t k
 
 reply_from : (wiring : Parts) (reply : Reply) → IsReplyOf wiring reply → names_known (numbers_of wiring) reply ≡ true
-reply_from wiring (replies.Got ms) k = all_from (has_message (numbers_of wiring)) (IsMessageOf wiring) (message_from wiring) ms k
+reply_from wiring (replies.Got ms) k = all_from (knows_message (numbers_of wiring)) (IsMessageOf wiring) (message_from wiring) ms k
 reply_from wiring (replies.Fired o cs) k = and_from (has_handed (numbers_of wiring) o) (list_all (has_cut (numbers_of wiring)) cs) (handed_from wiring o k.0) (all_from (has_cut (numbers_of wiring)) (HasQueueOf wiring) (λ c low. lt-ltb c.queue (length wiring.queues) low) cs k.1)
 reply_from wiring (replies.Admitted o) k = handed_from wiring o k
 reply_from wiring (replies.Dropped o) k = handed_from wiring o k

@@ -6,15 +6,15 @@ use Rattle.ccr_object.specs.declared.deed.PlaceAnswer.TheVariants.{Replied, Unme
 use Rattle.ccr_object.specs.declared.object.Object.{Object}
 use Rattle.ccr_object.specs.declared.object.Object.TheVariants.{Port, Arbiter, Interleave, Site, Queue, Meter}
 use Rattle.ccr_object.specs.declared.object.Placed.{Placed}
-use Rattle.ccr_object.specs.Numbers.{Known, has_message, has_task, names_known}
+use Rattle.ccr_object.specs.Numbers.{Known, knows_message, knows_task, names_known}
 
 -- whether all numbers in the messages and tasks that the object keeps are among these
 abbrev pub keeps_known : Known → Object → Bool
-keeps_known known (Port port) = list_all (has_message known) port.items
+keeps_known known (Port port) = list_all (knows_message known) port.items
 keeps_known known (Arbiter arbiter) = true
-keeps_known known (Interleave place) = list_all (has_task known) place.tasks
-keeps_known known (Site site) = list_all (has_task known) site.suspended
-keeps_known known (Queue queue) = list_all (has_task known) queue.tasks
+keeps_known known (Interleave place) = list_all (knows_task known) place.tasks
+keeps_known known (Site site) = list_all (knows_task known) site.suspended
+keeps_known known (Queue queue) = list_all (knows_task known) queue.tasks
 keeps_known known (Meter meter) = true
 
 -- whether all numbers that the place keeps are its own

@@ -7,12 +7,12 @@ use Rattle.ccr_base.specs.declared.names.Spot.{Spot}
 use Rattle.ccr_base.specs.declared.names.Spot.TheVariants.{Branch, Site}
 use Rattle.ccr_base.specs.declared.tasks.Cut.{Cut}
 use Rattle.ccr_base.specs.declared.tasks.Task.{Task}
+use Rattle.ccr_base.specs.Lists.{are_apart}
 use Rattle.ccr_wiring.specs.declared.parts.ArbiterPart.{ArbiterPart}
 use Rattle.ccr_wiring.specs.declared.parts.BranchPart.{BranchPart}
 use Rattle.ccr_wiring.specs.declared.parts.DomainPart.{DomainPart}
 use Rattle.ccr_wiring.specs.declared.parts.Parts.{Parts}
 use Rattle.ccr_wiring.specs.Domains.{domain_of}
-use Rattle.ccr_wiring.specs.Repeats.{are_apart}
 use Rattle.ccr_wiring.specs.Wirings.{actions_of, awaited}
 use Rattle.ccr_claim.specs.declared.asks.Ask.{Ask}
 use Rattle.ccr_claim.specs.declared.asks.Ask.TheVariants as asks
@@ -77,26 +77,26 @@ abbrev pub has_causes : Known → List ℕ → Bool
 has_causes known causes = has_each known.causes causes && are_apart causes
 
 -- whether there are the message's port and causes
-abbrev pub has_message : Known → Msg → Bool
-has_message known message = nat_lt message.port known.ports && has_causes known message.causes
+abbrev pub knows_message : Known → Msg → Bool
+knows_message known message = nat_lt message.port known.ports && has_causes known message.causes
 
 -- whether there are the task's spot, domain, queue and causes
-abbrev pub has_task : Known → Task → Bool
-has_task known task = has_spot known task.spot && has_domain known task.arbiter && nat_lt task.queue known.queues && has_causes known task.causes
+abbrev pub knows_task : Known → Task → Bool
+knows_task known task = has_spot known task.spot && has_domain known task.arbiter && nat_lt task.queue known.queues && has_causes known task.causes
 
 -- whether all numbers in the ask are among these, and no cause stands twice in its message or task
 abbrev pub is_known : Known → Ask → Bool
-is_known known (asks.Post message) = has_message known message
+is_known known (asks.Post message) = knows_message known message
 is_known known (asks.Claim task slot) = nat_lt slot.port known.ports
-is_known known (asks.Commit task messages) = has_task known task
-is_known known (asks.Suspend task) = has_task known task
-is_known known (asks.Put task) = has_task known task
+is_known known (asks.Commit task messages) = knows_task known task
+is_known known (asks.Suspend task) = knows_task known task
+is_known known (asks.Put task) = knows_task known task
 is_known known _ = true
 
 -- whether the task, where there is one, is one of these
 abbrev pub has_handed : Known → Option Task → Bool
 has_handed known None = true
-has_handed known (Some task) = has_task known task
+has_handed known (Some task) = knows_task known task
 
 -- whether there is the queue that the cut task was booked at
 abbrev pub has_cut : Known → Cut → Bool
@@ -104,7 +104,7 @@ has_cut known cut = nat_lt cut.queue known.queues
 
 -- whether all numbers in the reply are among these, and no cause stands twice in a message or task of it
 abbrev pub names_known : Known → Reply → Bool
-names_known known (replies.Got messages) = list_all (has_message known) messages
+names_known known (replies.Got messages) = list_all (knows_message known) messages
 names_known known (replies.Fired task cuts) = has_handed known task && list_all (has_cut known) cuts
 names_known known (replies.Admitted task) = has_handed known task
 names_known known (replies.Dropped task) = has_handed known task

@@ -6,14 +6,13 @@ use Rattle.ccr_base.specs.declared.names.Place.TheVariants as places
 use Rattle.ccr_base.specs.declared.names.Spot.{Spot}
 use Rattle.ccr_base.specs.declared.names.Spot.TheVariants.{Branch, Site as SiteOf}
 use Rattle.ccr_base.specs.declared.policies.Group.{Group}
-use Rattle.ccr_wiring.specs.declared.parts.ArbiterPart.{ArbiterPart}
 use Rattle.ccr_wiring.specs.declared.parts.DomainPart.{DomainPart}
 use Rattle.ccr_wiring.specs.declared.parts.Kind.{Kind}
 use Rattle.ccr_wiring.specs.declared.parts.Kind.TheVariants as kinds
 use Rattle.ccr_wiring.specs.declared.parts.Parts.{Parts}
 use Rattle.ccr_wiring.specs.Domains.{domain_of}
 use Rattle.ccr_wiring.specs.Groups.{is_once}
-use Rattle.ccr_wiring.specs.Wirings.{Placement, placement, spots, policy_of}
+use Rattle.ccr_wiring.specs.Wirings.{Placement, kind_of, placement, spots, policy_of}
 use Rattle.ccr_places.specs.Ports as port_words
 use Rattle.ccr_places.specs.Arbiters as arbiter_words
 use Rattle.ccr_places.specs.Interleaves as interleave_words
@@ -91,10 +90,6 @@ abbrev pub fresh_arbiter : Kind → List (ℕ × Group) → Object
 fresh_arbiter kinds.Receive listed = Arbiter (arbiter_words.receiver (first_branch listed) (fires_once listed))
 fresh_arbiter kinds.Choice listed = Arbiter (arbiter_words.choice (first_branch listed) (length listed))
 fresh_arbiter kinds.Interleave listed = Interleave (record { state = interleave_words.start (branches_of listed) (groups_of listed); tasks = [] })
-
--- the arbiter's kind; a number that names no arbiter counts as an Interleave, and has no branches
-abbrev pub kind_of : Parts → ℕ → Kind
-kind_of wiring arbiter = option_map_or (λ (part : ArbiterPart). part.kind) (slice_get wiring.arbiters arbiter) kinds.Interleave
 
 -- what stands at the place before all notes
 abbrev pub start_at : Parts → Place → Object

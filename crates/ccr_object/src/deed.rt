@@ -11,7 +11,7 @@ pub enum PlaceAnswer {
     Unmet,
 }
 
-/// An entry of a place's history: the note, or none where the ask's condition wasn't met. It bears its ask, which
+/// What an object tells of one act: the note, or none where the ask's condition wasn't met. It bears its ask, which
 /// contracts alone see.
 #[derive(Drop)]
 pub struct Deed {

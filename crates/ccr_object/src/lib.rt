@@ -14,4 +14,4 @@ pub use laws::places_name_what_they_know;
 pub use making::place_objects;
 pub use numbers::Numbers;
 pub use object::{Object, PlaceObject, Placed};
-pub use starting::{object_at, places_of};
+pub use starting::places_of;

@@ -4,7 +4,7 @@ ghost use Rattle.std.specs.Prelude.{◌≡◌, ◌↔◌, true, ◌++◌, length
 ghost use Rattle.std.specs.List.{list_all};
 ghost use Rattle.ccr_base.specs.declared.tasks.Cut.{Cut as CutOf};
 ghost use Rattle.ccr_wiring.specs.Wirings.{actions_of, awaited};
-ghost use Rattle.ccr_object.specs.Numbers.{numbers_of, domain_tests, site_count, site_counts, has_domain, has_spot, has_each, has_causes, has_message, has_task, has_handed, is_known, names_known};
+ghost use Rattle.ccr_object.specs.Numbers.{numbers_of, domain_tests, site_count, site_counts, has_domain, has_spot, has_each, has_causes, knows_message, knows_task, has_handed, is_known, names_known};
 ghost use Rattle.ccr_claim.specs.declared.asks.Ask.{Ask};
 ghost use Rattle.ccr_claim.specs.declared.asks.Reply.{Reply as Replied};
 ghost use Rattle.ccr_claim.specs.Wired.{IsKnown, IsReplyOf};
@@ -58,11 +58,11 @@ impl Numbers {
         ensures { result ≡ is_known self.now ask.now }
     {
         match ask {
-            Ask::Post(message) => self.has_message(message),
+            Ask::Post(message) => self.knows_message(message),
             Ask::Claim(_, slot) => (slot.port as usize) < self.ports,
-            Ask::Commit(task, _) => self.has_task(task),
-            Ask::Suspend(task) => self.has_task(task),
-            Ask::Put(task) => self.has_task(task),
+            Ask::Commit(task, _) => self.knows_task(task),
+            Ask::Suspend(task) => self.knows_task(task),
+            Ask::Put(task) => self.knows_task(task),
             _ => true,
         }
     }
@@ -73,7 +73,7 @@ impl Numbers {
         ensures { result ≡ names_known self.now reply.now }
     {
         match reply {
-            Reply::Got(messages) => self.has_messages(messages.as_slice()),
+            Reply::Got(messages) => self.knows_messages(messages.as_slice()),
             Reply::Fired { task, cuts } => {
                 self.has_handed(task) && has_cuts(self.queues, cuts.as_slice())
             }
@@ -84,11 +84,11 @@ impl Numbers {
         }
     }
 
-    fn has_messages(&self, messages: &[Msg]) -> bool
-        ensures { result ≡ list_all (has_message self.now) messages.now }
+    fn knows_messages(&self, messages: &[Msg]) -> bool
+        ensures { result ≡ list_all (knows_message self.now) messages.now }
     {
         for message in messages {
-            if !self.has_message(message) {
+            if !self.knows_message(message) {
                 return false;
             }
         }
@@ -99,19 +99,19 @@ impl Numbers {
         ensures { result ≡ has_handed self.now task.now }
     {
         match task {
-            Some(task) => self.has_task(task),
+            Some(task) => self.knows_task(task),
             None => true,
         }
     }
 
-    fn has_message(&self, message: &Msg) -> bool
-        ensures { result ≡ has_message self.now message.now }
+    fn knows_message(&self, message: &Msg) -> bool
+        ensures { result ≡ knows_message self.now message.now }
     {
         (message.port as usize) < self.ports && self.has_causes(message.causes.as_slice())
     }
 
-    fn has_task(&self, task: &Task) -> bool
-        ensures { result ≡ has_task self.now task.now }
+    fn knows_task(&self, task: &Task) -> bool
+        ensures { result ≡ knows_task self.now task.now }
     {
         self.has_spot(task.spot)
             && self.has_domain(task.arbiter)

@@ -2,9 +2,9 @@
 
 ghost use Rattle.std.specs.Prelude.{◌≡◌, ◌≤◌, ◌++◌, [], length, IfOk, OnOk};
 ghost use Rattle.ccr_base.specs.Bounds.{most_places};
-ghost use Rattle.ccr_wiring.specs.Wirings.{policy_of, spots as spots_of};
+ghost use Rattle.ccr_wiring.specs.Wirings.{kind_of, policy_of};
 ghost use Rattle.ccr_places.specs.Interleaves.{start};
-ghost use Rattle.ccr_object.specs.Starts.{port_places, queue_places, arbiter_places, site_place, site_places, places_of, member_at, members, branches_of, groups_of, first_branch, fires_once, fresh_arbiter, kind_of, start_at};
+ghost use Rattle.ccr_object.specs.Starts.{port_places, queue_places, arbiter_places, site_places, places_of, member_at, members, branches_of, groups_of, first_branch, fires_once, fresh_arbiter, start_at};
 
 use crate::object::Object;
 use ccr_arbiter::ArbiterObject;
@@ -82,7 +82,7 @@ fn add_sites(places: &mut Vec<Place>, spots: &[Spot]) -> Result<(), OutOfMemory>
 }
 
 /// What stands at the place before all notes.
-pub fn object_at(alloc: Global, wiring: &Wiring, place: Place) -> Result<Object, OutOfMemory>
+pub(crate) fn object_at(alloc: Global, wiring: &Wiring, place: Place) -> Result<Object, OutOfMemory>
     ensures object { IfOk result (λ object. object ≡ start_at wiring.now place) }
 {
     Ok(match place {
@@ -97,21 +97,12 @@ pub fn object_at(alloc: Global, wiring: &Wiring, place: Place) -> Result<Object,
     })
 }
 
-fn kind_of(wiring: &Wiring, arbiter: ArbiterNo) -> Kind
-    ensures { result ≡ kind_of wiring.now arbiter }
-{
-    match wiring.parts().arbiters.as_slice().get(arbiter as usize) {
-        Some(part) => part.kind,
-        None => Kind::Interleave,
-    }
-}
-
 /// The arbiter of this number with the branches of its domain.
 fn arbiter_at(alloc: Global, wiring: &Wiring, number: ArbiterNo) -> Result<Object, OutOfMemory>
     ensures { IfOk result (λ object. object ≡ fresh_arbiter (kind_of wiring.now number) (members wiring.now number)) }
 {
     let listed = members(alloc, wiring, number)?;
-    match kind_of(wiring, number) {
+    match wiring.kind_of(number) {
         Kind::Receive => {
             let receiver = ArbiterObject::receiver(alloc, first_of(&listed), is_once(&listed));
             Ok(Object::Arbiter(receiver))

@@ -1,5 +1,6 @@
 -- What stands in a history before the events of the serial order.
 use Rattle.std.specs.Prelude.{◌≡◌, ◌<◌, ℕ, zero, suc, ◌+◌, List, [], length, Option, Some, None}
+use Rattle.ccr_wiring.specs.Actors.{actor_count}
 use Rattle.ccr_wiring.specs.declared.parts.Parts.{Parts}
 use Rattle.ccr_model.specs.declared.history.Event.{Event}
 use Rattle.ccr_actor.specs.Actors.{next}
@@ -11,7 +12,7 @@ use Rattle.ccr_space.specs.Closes.{IsBroughtToRest}
 -- a run in which each poster and each worker made its own steps until it had none left
 pub record IsRunToRest (wiring : Parts) (workers : ℕ) (entries : List Entry) : Type 0 where
   pub steps : IsRunAfter wiring workers never [] entries
-  pub rest : (actor : ℕ) → actor < length wiring.posters + workers → next wiring actor None (replies_of wiring entries actor) ≡ None
+  pub rest : (actor : ℕ) → actor < actor_count wiring workers → next wiring actor None (replies_of wiring entries actor) ≡ None
 
 -- what stands before the events of the serial order: with turns what is visible of their run; else with workers what is visible of
 -- some run to rest, whatever the threads do, which is what closed locks tell, whose passes all came to rest; else nothing

@@ -1,17 +1,18 @@
 //! What the actors do before the serial order finishes the run.
 
-ghost use Rattle.std.specs.Prelude.{◌≡◌, ◌==◌, ◌<◌, ◌≤◌, ◌+◌, ◌^◌, All, IfOk, IfSome, None, Some, is_ok, length, option_map};
+ghost use Rattle.std.specs.Prelude.{◌≡◌, ◌==◌, ◌<◌, ◌≤◌, All, IfOk, IfSome, None, Some, is_ok, length, option_map};
 ghost use Rattle.ccr_base.specs.Bounds.{most_workers};
+ghost use Rattle.ccr_wiring.specs.Actors.{actor_count};
 ghost use Rattle.ccr_model.specs.Firings.{fired};
 ghost use Rattle.ccr_model.specs.Legal.{IsLegal};
-ghost use Rattle.ccr_model.specs.Order.{next_attempt};
+ghost use Rattle.ccr_model.specs.Order.{most_attempts, next_attempt};
 ghost use Rattle.ccr_opening.specs.Begins.{Begins};
 
 use crate::threads::run_threads;
 use ccr_base::{ActorNo, Gate, OutOfMemory};
 use ccr_model::History;
 use ccr_net::{closers_are_new_to_runs, run_schedule, visible};
-use ccr_space::Seen;
+use ccr_space::Shown;
 use ccr_wiring::Wiring;
 use std::alloc::Global;
 use std::sync::Wait;
@@ -25,12 +26,13 @@ fn scheduled_history(
     turns: &[ActorNo],
 ) -> Result<History, OutOfMemory>
     requires workers { workers ≤ most_workers }
-    requires turns { All (λ actor. actor < length wiring.now.posters + workers) turns.now }
+    requires turns { All (λ actor. actor < actor_count wiring.now workers) turns.now }
     ensures begins { IfOk result (Begins wiring.now workers (Some turns.now)) }
     ensures legal { IfOk result (IsLegal wiring.now) }
-    ensures attempts { IfOk result (λ first. next_attempt (length wiring.now.posters + workers) (fired first) ≤ 2 ^ 31) }
+    ensures attempts { IfOk result (λ first. next_attempt (actor_count wiring.now workers) (fired first) ≤ most_attempts) }
 {
     closers_are_new_to_runs();
+    // `parts` says that the wiring is valid, on which the promises stand.
     let _valid = wiring.parts();
     let full = run_schedule(alloc, wiring, workers, turns)?;
     let first = visible(alloc, wiring, &full)?;
@@ -49,9 +51,10 @@ fn threaded_history<R: AllocGlobal + Threads + Wait + Sync, G: Gate + Sync>(
     requires many { workers ≤ most_workers }
     ensures begins { IfOk result (Begins wiring.now workers None) }
     ensures legal { IfOk result (IsLegal wiring.now) }
-    ensures attempts { IfOk result (λ first. next_attempt (length wiring.now.posters + workers) (fired first) ≤ 2 ^ 31) }
+    ensures attempts { IfOk result (λ first. next_attempt (actor_count wiring.now workers) (fired first) ≤ most_attempts) }
 {
     closers_are_new_to_runs();
+    // `parts` says that the wiring is valid, on which the promises stand.
     let _valid = wiring.parts();
     let closed = run_threads(rt, rt.alloc(), wiring, workers, gate)?;
     let first = unless_short(closed)?;
@@ -59,7 +62,7 @@ fn threaded_history<R: AllocGlobal + Threads + Wait + Sync, G: Gate + Sync>(
 }
 
 /// The history of the closed run. Where it names an actor that was told that memory ran out, that is the answer.
-fn unless_short(closed: Seen) -> Result<History, OutOfMemory>
+fn unless_short(closed: Shown) -> Result<History, OutOfMemory>
     ensures short { is_ok result ≡ (length closed.short == 0) }
     ensures history { IfOk result (λ first. first ≡ closed.history) }
 {
@@ -79,10 +82,10 @@ pub fn first_history<R: AllocGlobal + Threads + Wait + Sync, G: Gate + Sync>(
     turns: Option<&[ActorNo]>,
 ) -> Result<History, OutOfMemory>
     requires workers { workers ≤ most_workers }
-    requires turns { IfSome turns (λ turns. All (λ actor. actor < length wiring.now.posters + workers) turns.now) }
+    requires turns { IfSome turns (λ turns. All (λ actor. actor < actor_count wiring.now workers) turns.now) }
     ensures begins { IfOk result (Begins wiring.now workers (option_map (λ t. t.now) turns.entry)) }
     ensures legal { IfOk result (IsLegal wiring.now) }
-    ensures attempts { IfOk result (λ first. next_attempt (length wiring.now.posters + workers) (fired first) ≤ 2 ^ 31) }
+    ensures attempts { IfOk result (λ first. next_attempt (actor_count wiring.now workers) (fired first) ≤ most_attempts) }
 {
     match turns {
         Some(turns) => scheduled_history(rt.alloc(), wiring, workers, turns),

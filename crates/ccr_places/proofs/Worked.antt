@@ -25,7 +25,7 @@ use Rattle.ccr_places.specs.Meters as meters
 use Rattle.ccr_places.specs.TaskSets.{TaskSet, task_cmp, task_cmp_total}
 
 -- the sizes of sets of tasks, step by step
-len-none : set.len (set.empty {R = task_cmp}) ≡ 0
+pub len-none : set.len (set.empty {R = task_cmp}) ≡ 0
 len-none = set.len-empty task_cmp
 
 pub in-none : (t : TaskId) → set.contains (set.empty {R = task_cmp}) t ≡ false

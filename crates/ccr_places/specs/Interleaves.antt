@@ -1,6 +1,6 @@
 -- What a domain of Interleaves keeps, and its steps: the branches of one Interleave, or of several that share one protection. The
 -- tasks stand here by their names; the domain's object keeps them whole.
-use Rattle.std.specs.Prelude.{◌≡◌, ⊤, ℕ, Bool, true, false, not, ◌==◌, ◌&&◌, ◌||◌, List, [], ◌∷◌, ◌++◌, drop, fold, map, position, slice_get, is_some, Option, Some, None, if◌then◌else◌, refl}
+use Rattle.std.specs.Prelude.{◌≡◌, ⊤, ℕ, Bool, false, not, ◌==◌, ◌&&◌, ◌||◌, List, [], ◌∷◌, ◌++◌, drop, fold, map, position, slice_get, is_some, Option, Some, None, if◌then◌else◌, refl}
 use Rattle.std.specs.Coded.{Coded, code_by, coded×, coded_ℕ, coded_list, coded_option}
 use Rattle.std.specs.Option.{option_map, option_and_then}
 use Rattle.std.specs.FinSet as set
@@ -11,11 +11,11 @@ use Rattle.ccr_base.specs.declared.tasks.Task.{Task}
 use Rattle.ccr_base.specs.declared.tasks.By.{By}
 use Rattle.ccr_base.specs.declared.tasks.By.TheVariants.{Fired as ByFired}
 use Rattle.ccr_base.specs.declared.policies.Group.{Group}
-use Rattle.ccr_base.specs.declared.policies.Group.TheVariants.{Once, Always, Choice, Teardown, Exclusive, Concurrent}
 use Rattle.ccr_base.specs.contracts.names.TaskId as name
 use Rattle.ccr_base.specs.contracts.names.Spot as place_of_firing
 use Rattle.ccr_base.specs.contracts.tasks.Task as whole
 use Rattle.ccr_base.specs.contracts.policies.Group as group
+use Rattle.ccr_base.specs.Groups.{is_teardown as is_teardown_group, is_concurrent as is_concurrent_group}
 use Rattle.ccr_base.specs.Names.{has_task}
 use Rattle.ccr_places.specs.TaskSets.{TaskSet, task_set_code}
 use Rattle.ccr_places.specs.declared.notes.Note.{Note}
@@ -53,22 +53,12 @@ group_at place spot = group_among place.branches place.groups spot
 -- whether it is the group that ends all
 abbrev pub is_teardown : Option Group → Bool
 is_teardown None = false
-is_teardown (Some Once) = false
-is_teardown (Some Always) = false
-is_teardown (Some Choice) = false
-is_teardown (Some Teardown) = true
-is_teardown (Some Exclusive) = false
-is_teardown (Some Concurrent) = false
+is_teardown (Some g) = is_teardown_group g
 
 -- whether it is a group whose tasks run beside each other
 abbrev pub is_concurrent : Option Group → Bool
 is_concurrent None = false
-is_concurrent (Some Once) = false
-is_concurrent (Some Always) = false
-is_concurrent (Some Choice) = false
-is_concurrent (Some Teardown) = false
-is_concurrent (Some Exclusive) = false
-is_concurrent (Some Concurrent) = true
+is_concurrent (Some g) = is_concurrent_group g
 
 -- whether the task was admitted and isn't noted over
 abbrev pub is_admitted : InterleaveState → TaskId → Bool
@@ -171,7 +161,8 @@ waiting_code =
 abbrev pub interleave_code : Coded InterleaveState
 interleave_code =
     code_by (List ℕ × (List Group × (List TaskId × (List Waiting × (TaskSet × (TaskSet × Option TaskId))))))
-    (coded× (coded_list coded_ℕ) (coded× (coded_list group.the_row.coded) (coded× (coded_list name.the_row.coded) (coded× (coded_list waiting_code) (coded× task_set_code (coded× task_set_code (coded_option name.the_row.coded)))))))
+    (coded× (coded_list coded_ℕ) (coded× (coded_list group.the_row.coded) (coded× (coded_list name.the_row.coded)
+    (coded× (coded_list waiting_code) (coded× task_set_code (coded× task_set_code (coded_option name.the_row.coded)))))))
     (λ s. (s.branches, (s.groups, (s.fired, (s.waiting, (s.shared, (s.alone, s.teardown)))))))
     (λ p. record { branches = p.0; groups = p.1.0; fired = p.1.1.0; waiting = p.1.1.1.0; shared = p.1.1.1.1.0; alone = p.1.1.1.1.1.0; teardown = p.1.1.1.1.1.1 })
     (λ _. refl)

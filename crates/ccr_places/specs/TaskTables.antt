@@ -88,7 +88,9 @@ module _ {S : Type 0} (test : S → Bool) where
         by : (before after : Bool) → option_map_or test (kept_of old task) false ≡ before → option_map_or test kept false ≡ after
             → set.len (tasks_where test new) + cond before 1 0 ≡ set.len (tasks_where test old) + cond after 1 0
         by before true b a =
-            let grown = ap set.len (tasks_where-put a) ∙ set.len-insert task_cmp_total (tasks_where test old) task ∙ ap (λ c. cond c (set.len (tasks_where test old)) (set.len (tasks_where test old) + 1)) (was ∙ b) in
+            let grown = ap set.len (tasks_where-put a)
+            ∙ set.len-insert task_cmp_total (tasks_where test old) task
+            ∙ ap (λ c. cond c (set.len (tasks_where test old)) (set.len (tasks_where test old) + 1)) (was ∙ b) in
             put_len before grown
           where
             put_len : (before : Bool) → set.len (tasks_where test new) ≡ cond before (set.len (tasks_where test old)) (set.len (tasks_where test old) + 1)
@@ -97,10 +99,14 @@ module _ {S : Type 0} (test : S → Bool) where
             put_len false e = omega arith
         by true false b a =
             let there = len-there (tasks_where test old) task (was ∙ b) in
-            let gone = ap set.len (tasks_where-gone a) ∙ set.len-remove task_cmp_total (tasks_where test old) task ∙ ap (λ c. cond c (set.len (tasks_where test old) - 1) (set.len (tasks_where test old))) (was ∙ b) in
+            let gone = ap set.len (tasks_where-gone a)
+            ∙ set.len-remove task_cmp_total (tasks_where test old) task
+            ∙ ap (λ c. cond c (set.len (tasks_where test old) - 1) (set.len (tasks_where test old))) (was ∙ b) in
             omega arith
         by false false b a =
-            let gone = ap set.len (tasks_where-gone a) ∙ set.len-remove task_cmp_total (tasks_where test old) task ∙ ap (λ c. cond c (set.len (tasks_where test old) - 1) (set.len (tasks_where test old))) (was ∙ b) in
+            let gone = ap set.len (tasks_where-gone a)
+            ∙ set.len-remove task_cmp_total (tasks_where test old) task
+            ∙ ap (λ c. cond c (set.len (tasks_where test old) - 1) (set.len (tasks_where test old))) (was ∙ b) in
             omega arith
 
     -- the set stays, where the task isn't in it before and after

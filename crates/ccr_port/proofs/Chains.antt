@@ -1,13 +1,14 @@
 -- How chains stay chains while keys come and go.
-use Rattle.std.proofs.Common.{◌≡◌, ℕ, zero, suc, ◌+◌, ◌<◌, ◌≤◌, Bool, true, false, not, ◌==◌, ◌&&◌, ◌||◌, List, [], ◌∷◌, ◌++◌, length, Option, Some, None, refl, sym, ap, ◌∙◌, arith}
+use Rattle.std.proofs.Common.{◌≡◌, ℕ, zero, suc, ◌+◌, Bool, true, false, not, ◌==◌, ◌&&◌, ◌||◌, List, [], ◌∷◌, ◌++◌, length, Option, Some, None, refl, sym, ap, ◌∙◌, arith}
 use Rattle.std.specs.Prelude.{if◌then◌else◌}
 use Rattle.std.specs.List.{slice_get, list_all}
 use Rattle.std.specs.Option.{option_map_or}
 use Rattle.std.proofs.lemmas.Grind.{common_steps}
-use Rattle.ccr_port.specs.Chains.{keys_from, IsPath, IsWayBack, has_key, are_apart, without_key, IsChain, same_point, mended}
+use Rattle.ccr_port.specs.Chains.{keys_from, IsPath, IsWayBack, has_key, without_key, IsChain, same_point, mended}
 pub use Rattle.std.proofs.lemmas.Bool.{or_parts as neither}
 pub use Rattle.std.proofs.lemmas.Bool.{and_parts as both}
 use Rattle.ccr_base.proofs.Booleans.{eq_turned, not_true, eq-self, same_number}
+use Rattle.ccr_base.specs.Lists.{are_apart}
 
 -- ---- tests
 
@@ -336,10 +337,6 @@ module _ (P : ℕ → Bool) where
       of_test : (b : Bool) → (k == key) ≡ b → (has_key key ks ≡ true → P key ≡ true) → P key ≡ true
       of_test true same rest = carried (λ n. P n ≡ true) k key (same_number k key same) (both _ _ all).0
       of_test false other rest = rest (has-rest key k ks other has)
-
-  pub all-more : (key : ℕ) (ks : List ℕ) → P key ≡ true → list_all P ks ≡ true → list_all P (ks ++ key ∷ []) ≡ true
-  all-more key [] one all = ap (λ b. b && true) one
-  all-more key (k ∷ ks) one all = ap (λ b. b && list_all P (ks ++ key ∷ [])) (both _ _ all).0 ∙ all-more key ks one (both _ _ all).1
 
   pub all-without : (key : ℕ) (ks : List ℕ) → list_all P ks ≡ true → list_all P (without_key key ks) ≡ true
   all-without key [] all = refl

@@ -6,11 +6,12 @@ use Rattle.std.specs.Option.{option_and_then, option_map_or}
 use Rattle.slab.specs.Slab.{Slab, get, Updates}
 use Rattle.ccr_base.specs.declared.messages.Msg.{Msg}
 use Rattle.ccr_base.proofs.Booleans.{eq-self, same_number, differ}
+use Rattle.ccr_base.proofs.Lists.{all_more}
 use Rattle.ccr_port.specs.declared.links.Link.{Link}
 use Rattle.ccr_port.specs.declared.items.LinkedMessage.{LinkedMessage}
 use Rattle.ccr_port.specs.Chains.{behind_of, before_of, has_key, without_key, IsChain, same_point, mended}
 use Rattle.ccr_port.specs.Entries.{keys_of, message_under, without_entry, link_at, message_at, is_kept, are_kept, entries_at, linked_keys, AreLinked}
-use Rattle.ccr_port.proofs.Chains.{both, neither, has-rest, keys-are, behind-place, all-more, all-without, end-holds, key-holds, behind_key-holds, before_key-holds, length-without_key, gone-without, chain-gone}
+use Rattle.ccr_port.proofs.Chains.{both, neither, has-rest, keys-are, behind-place, all-without, end-holds, key-holds, behind_key-holds, before_key-holds, length-without_key, gone-without, chain-gone}
 use Rattle.ccr_port.proofs.Linking.{chain-appended, chain-unlinked}
 
 -- ---- the messages of the keys
@@ -152,7 +153,7 @@ module _ (slab : Slab LinkedMessage) (first last : Option ℕ) (count : ℕ) (is
           (λ k. ap (λ o. option_map (λ (entry : LinkedMessage). entry.link) o) (written_one k) ∙ mapped (k == key) (get slab k))
           path back ks is.chain (absent key none))
           (length-append ks (key ∷ []) ∙ omega (arith, is.long))
-          (all-more (λ k. is_some (message_at slab2 k)) key ks (ap is_some here) (kept-off slab slab2 key others2 ks (absent key none) is.kept))
+          (all_more (λ k. is_some (message_at slab2 k)) ks key (kept-off slab slab2 key others2 ks (absent key none) is.kept) (ap is_some here))
         where
           mapped : (b : Bool) (o : Option LinkedMessage) → option_map (λ (entry : LinkedMessage). entry.link) (if b then Some (record { message = message; link = record { before = last; behind = None } }) else o) ≡ (if b then Some (record { before = last; behind = None }) else option_map (λ (entry : LinkedMessage). entry.link) o)
           mapped true o = refl

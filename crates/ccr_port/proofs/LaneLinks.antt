@@ -1,18 +1,19 @@
 -- What the writes of a lane leave: its keys, linked.
-use Rattle.std.proofs.Common.{◌≡◌, ℕ, zero, suc, ◌+◌, ◌-◌, ◌^◌, ◌<◌, ◌≤◌, Bool, true, false, not, ◌==◌, ◌&&◌, List, [], ◌∷◌, ◌++◌, length, Option, Some, None, refl, sym, ap, ◌∙◌, arith, length-append}
+use Rattle.std.proofs.Common.{◌≡◌, ℕ, zero, suc, ◌+◌, ◌-◌, ◌^◌, ◌<◌, ◌≤◌, true, false, ◌==◌, ◌&&◌, List, [], ◌∷◌, ◌++◌, length, Option, Some, None, refl, sym, ap, ◌∙◌, arith, length-append}
 use Rattle.std.specs.Prelude.{if◌then◌else◌, nat_lt}
 use Rattle.std.specs.List.{slice_get, list_all}
-use Rattle.std.specs.Option.{option_and_then, option_map_or}
+use Rattle.std.specs.Option.{option_and_then}
 use Rattle.std.proofs.Math.ListN.{set, get_or}
 use Rattle.std.proofs.lemmas.List.{length-set}
 use Rattle.std.proofs.lemmas.Grind.{common_steps}
 use Rattle.std.proofs.lemmas.Bool.Decides.{nat_tests}
 use Rattle.std.proofs.lemmas.Bool.{ltb-true, lt-ltb}
 use Rattle.ccr_base.proofs.Booleans.{not_true}
+use Rattle.ccr_base.proofs.Lists.{all_more}
 use Rattle.ccr_port.specs.declared.links.Link.{Link}
 use Rattle.ccr_port.specs.Chains.{behind_of, before_of, has_key, without_key, IsChain, mended}
 use Rattle.ccr_port.specs.Lanes.{is_below, lane_keys, IsLinkedLane, LaneState, can_enter}
-use Rattle.ccr_port.proofs.Chains.{both, keys-are, behind-place, all-more, all-without, end-holds, key-holds, behind_key-holds, before_key-holds, length-without_key, chain-same}
+use Rattle.ccr_port.proofs.Chains.{both, keys-are, behind-place, all-without, end-holds, key-holds, behind_key-holds, before_key-holds, length-without_key, chain-same}
 use Rattle.ccr_port.proofs.Linking.{chain-appended, chain-unlinked}
 
 slice_get-at : {X : Type 0} (xs : List X) (k : ℕ) (x : X) → k < length xs → x ≡ get_or xs k x → slice_get xs k ≡ Some x
@@ -94,7 +95,7 @@ module _ (links : List Link) (first last : Option ℕ) (count : ℕ) (is : IsLin
       leads links2 first2 (Some key) (count + 1) (lane_keys links first count ++ key ∷ [])
       (chain-appended (slice_get links) (slice_get (set links key written)) (slice_get links2) first first2 last key (λ k. slice_get-set links key k written low) path back (lane_keys links first count) is.chain out)
       (length-append (lane_keys links first count) (key ∷ []) ∙ omega (arith, is.long))
-      (rw long (all-more (λ k. nat_lt k (length links)) key (lane_keys links first count) (lt-ltb key (length links) low) is.low))
+      (rw long (all_more (λ k. nat_lt k (length links)) (lane_keys links first count) key is.low (lt-ltb key (length links) low)))
 
   pub lane-grown : (links1 : List Link) → ((f q : Option ℕ) → behind_of (slice_get links1) f q ≡ behind_of (slice_get links) f q) → ((l q : Option ℕ) → before_of (slice_get links1) l q ≡ before_of (slice_get links) l q) → length links ≤ length links1 → Leads links1 first last count (lane_keys links first count)
   lane-grown links1 path back more =

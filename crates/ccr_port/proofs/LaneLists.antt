@@ -1,5 +1,5 @@
 -- How the lanes of a port stay what they are while messages come and go.
-use Rattle.std.proofs.Common.{◌≡◌, ℕ, zero, suc, ◌+◌, ◌-◌, ◌^◌, ◌<◌, ◌≤◌, Bool, true, false, not, ◌==◌, ◌&&◌, ◌||◌, List, [], ◌∷◌, ◌++◌, length, map, take, drop, Option, Some, None, refl, sym, ap, ◌∙◌, arith, add-one}
+use Rattle.std.proofs.Common.{◌≡◌, ℕ, zero, suc, ◌+◌, ◌^◌, ◌<◌, ◌≤◌, Bool, true, false, not, ◌==◌, ◌&&◌, ◌||◌, List, [], ◌∷◌, ◌++◌, length, map, take, drop, Some, refl, sym, ap, ◌∙◌, arith, add-one}
 use Rattle.std.specs.Prelude.{if◌then◌else◌, nat_lt}
 use Rattle.std.specs.List.{slice_get, list_all}
 use Rattle.std.proofs.Math.ListN.{set, get_or}
@@ -13,7 +13,8 @@ use Rattle.std.proofs.Math.Bool.{or-true}
 use Rattle.ccr_base.specs.declared.messages.Msg.{Msg}
 use Rattle.ccr_base.specs.declared.patterns.Pred.{Pred}
 use Rattle.ccr_base.specs.Choice.{holds}
-use Rattle.ccr_port.specs.Chains.{has_key, are_apart, without_key}
+use Rattle.ccr_base.specs.Lists.{are_apart}
+use Rattle.ccr_port.specs.Chains.{has_key, without_key}
 use Rattle.ccr_port.specs.Entries.{keys_of, message_under, without_entry, without_entries, can_take}
 use Rattle.ccr_port.specs.Lanes.{LaneState, fitting_keys, AreLanes, AreSame, HasLane, can_enter, can_leave, appended, unlinked, entered, left, have_room}
 use Rattle.ccr_port.proofs.Chains.{both, has-rest}
@@ -173,13 +174,6 @@ passed_over lanes n k here pred b read decides other low has = of_test (n == k) 
         let yes : b ≡ true = decides.1 (rw this has.2) in
         absurd (cc)
     of_test false is = grind (arith, nat_tests, is, low)
-
-pub last_lane : (lanes now : List LaneState) (n : ℕ) (lane : LaneState) → n ≡ length lanes → now ≡ lanes ++ lane ∷ [] → slice_get now n ≡ Some lane
-last_lane lanes now n lane long is = rw (is, long) (at lanes)
-  where
-    at : (ls : List LaneState) → slice_get (ls ++ lane ∷ []) (length ls) ≡ Some lane
-    at [] = refl
-    at (l ∷ ls) = at ls
 
 pub is-at : (es : List (ℕ × Msg)) (lanes : List LaneState) (n : ℕ) (lane : LaneState) → AreLanes es lanes → slice_get lanes n ≡ Some lane → lane.keys ≡ fitting_keys lane.pred es
 is-at es [] n lane are at = absurd (cc)

@@ -4,5 +4,5 @@ pub mod LaneLinks
 pub mod ItemLinks
 pub mod Listing
 pub mod LaneLists
-pub mod Owned
+pub mod MessagesBearTheirPort
 pub mod PortSteps

@@ -1,14 +1,13 @@
 -- Chains whose links are kept under the keys, and what the writes to them leave.
-use Rattle.std.proofs.Common.{◌≡◌, ℕ, zero, suc, ◌+◌, ◌-◌, ◌<◌, ◌≤◌, Bool, true, false, not, ◌==◌, ◌&&◌, ◌||◌, List, [], ◌∷◌, ◌++◌, length, Option, Some, None, refl, sym, ap, ◌∙◌, arith, length-append}
-use Rattle.std.specs.Prelude.{if◌then◌else◌, nat_lt}
-use Rattle.std.specs.List.{slice_get, list_all}
+use Rattle.std.proofs.Common.{◌≡◌, ℕ, Bool, true, false, ◌==◌, List, [], ◌∷◌, ◌++◌, Option, Some, None, refl, sym, ap, ◌∙◌, arith, length-append}
+use Rattle.std.specs.Prelude.{if◌then◌else◌}
 use Rattle.std.specs.Option.{option_and_then}
 use Rattle.std.proofs.lemmas.Grind.{common_steps}
 use Rattle.std.proofs.lemmas.Bool.Decides.{nat_tests}
 use Rattle.ccr_base.proofs.Booleans.{eq-self, same_number}
 use Rattle.ccr_port.specs.declared.links.Link.{Link}
-use Rattle.ccr_port.specs.Chains.{behind_of, before_of, keys_from, IsPath, IsWayBack, has_key, are_apart, without_key, IsChain, same_point, mended}
-use Rattle.ccr_port.proofs.Chains.{same_turned, is_off, mended-there, mended-else, last-is, last_point, off_the_last, chain-more, chain-without}
+use Rattle.ccr_port.specs.Chains.{behind_of, before_of, has_key, without_key, IsChain, same_point, mended}
+use Rattle.ccr_port.proofs.Chains.{same_turned, mended-there, mended-else, last-is, off_the_last, chain-more, chain-without}
 
 -- two writes at different points, in either order
 swapped : (f : Option ℕ → Option ℕ) (a b v w q : Option ℕ) → same_point a b ≡ false → mended (mended f b v) a w q ≡ mended (mended f a w) b v q

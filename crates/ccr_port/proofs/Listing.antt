@@ -1,7 +1,7 @@
 -- The messages of a port by their keys: which satisfy a predicate, and what is left without them.
-use Rattle.std.proofs.Common.{◌≡◌, ℕ, zero, suc, ◌+◌, ◌-◌, ◌^◌, ◌<◌, ◌≤◌, Bool, true, false, not, ◌==◌, ◌&&◌, ◌||◌, List, [], ◌∷◌, ◌++◌, length, take, drop, Option, Some, None, refl, sym, ap, ◌∙◌, arith, add-one, length-append, option_to_list}
+use Rattle.std.proofs.Common.{◌≡◌, ℕ, zero, suc, ◌-◌, ◌<◌, ◌≤◌, Bool, true, false, not, ◌==◌, ◌&&◌, ◌||◌, List, [], ◌∷◌, ◌++◌, length, take, Some, None, refl, sym, ap, ◌∙◌, arith, add-one, length-append, option_to_list}
 use Rattle.std.specs.Prelude.{if◌then◌else◌, nat_lt}
-use Rattle.std.specs.List.{slice_get, list_all}
+use Rattle.std.specs.List.{slice_get}
 use Rattle.std.proofs.Math.ListN.{get_or}
 use Rattle.std.proofs.lemmas.Grind.{common_steps}
 use Rattle.std.proofs.lemmas.Bool.Decides.{nat_tests}
@@ -11,8 +11,9 @@ use Rattle.ccr_base.specs.declared.messages.Msg.{Msg}
 use Rattle.ccr_base.specs.declared.patterns.Pred.{Pred}
 use Rattle.ccr_base.specs.Choice.{holds, fitting}
 use Rattle.ccr_base.proofs.Booleans.{eq_turned, not_true, eq-self, same_number}
+use Rattle.ccr_base.specs.Lists.{are_apart}
 use Rattle.ccr_places.specs.Ports.{without_first}
-use Rattle.ccr_port.specs.Chains.{has_key, are_apart, without_key}
+use Rattle.ccr_port.specs.Chains.{has_key}
 use Rattle.ccr_port.specs.Entries.{keys_of, messages_of, message_under, messages_under, are_under, without_entry, without_entries, can_take}
 use Rattle.ccr_port.specs.Lanes.{fitting_keys}
 use Rattle.ccr_port.proofs.Chains.{both, neither, has-rest, carried, apart-without}

@@ -7,23 +7,25 @@ use Rattle.std.proofs.lemmas.Option.{get_or_from_slice_get}
 use Rattle.std.proofs.lemmas.Grind.{common_steps}
 use Rattle.std.proofs.lemmas.Bool.Decides.{nat_tests}
 use Rattle.std.proofs.lemmas.Bool.{lt-leb}
+use Rattle.std.proofs.lemmas.List.{length_push}
 use Rattle.ccr_base.specs.declared.names.TaskId.{TaskId}
 use Rattle.ccr_base.specs.declared.messages.Msg.{Msg}
 use Rattle.ccr_base.specs.declared.patterns.Pred.{Pred}
 use Rattle.ccr_base.specs.declared.patterns.Slot.{Slot}
 use Rattle.ccr_base.specs.Choice.{holds, fitting}
+use Rattle.ccr_base.specs.Lists.{are_apart}
 use Rattle.ccr_places.specs.declared.claims.StandingClaim.{StandingClaim}
 use Rattle.ccr_places.specs.declared.notes.ClaimNote.TheVariants.{Got as GotNote, Short as ShortNote}
 use Rattle.ccr_places.specs.Ports.{PortState, may_post, claim_note, after_claim, without_first}
 use Rattle.ccr_port.specs.declared.claims.Claimed.TheVariants.{Got, Short}
 use Rattle.ccr_port.specs.declared.claims.MarkedClaim.{MarkedClaim}
-use Rattle.ccr_port.specs.Chains.{has_key, are_apart, without_key}
+use Rattle.ccr_port.specs.Chains.{has_key, without_key}
 use Rattle.ccr_port.specs.Entries.{keys_of, messages_of, messages_under, are_under, can_take, without_entry, without_entries}
 use Rattle.ccr_port.specs.Lanes.{LaneState, fitting_keys, AreLanes, AreSame, HasLane, can_enter, entered, have_room}
 use Rattle.ccr_port.specs.Marks.{IsMarked, IsPort}
 use Rattle.ccr_port.specs.Replies.{are_at, claim_reply}
 use Rattle.ccr_port.proofs.Chains.{both, apart-more, apart-without}
-use Rattle.ccr_port.proofs.Owned.{own_more, own-rest}
+use Rattle.ccr_port.proofs.MessagesBearTheirPort.{own_more, own-rest}
 use Rattle.ccr_port.proofs.Listing.{messages-more, fitting_keys-more, length-fitting_keys, is_choice}
 use Rattle.ccr_port.proofs.LaneLists.{are-same, can-enter-all, entered-all, is-at}
 
@@ -67,15 +69,11 @@ keys_of-more : (es : List (ℕ × Msg)) (key : ℕ) (message : Msg) → keys_of 
 keys_of-more [] key message = refl
 keys_of-more (e ∷ es) key message = ap (λ l. e.0 ∷ l) (keys_of-more es key message)
 
-length-more : (es : List (ℕ × Msg)) (e : ℕ × Msg) → length (es ++ e ∷ []) ≡ length es + 1
-length-more [] e = refl
-length-more (x ∷ es) e = omega (arith, length-more es e)
-
 module _ (number : ℕ) (es now : List (ℕ × Msg)) (lanes lanes2 : List LaneState) (claim : Option MarkedClaim) (key : ℕ) (message : Msg)
     (is : IsPort number es lanes claim) (same : AreSame lanes lanes2) (out : has_key key (keys_of es) ≡ false) where
   pub posted : length es + 1 < 2 ^ 32 → (message.port == number) ≡ true → now ≡ es ++ (key, message) ∷ [] → IsPort number now (map (entered key message.value) lanes2) claim
   posted few here come = rw come (record {
-    few = omega (arith, length-more es (key, message));
+    few = omega (arith, length_push es (key, message));
     own = rw (messages-more key message es) (own_more number (messages_of es) message is.own here);
     apart = ap are_apart (keys_of-more es key message) ∙ apart-more key (keys_of es) out is.apart;
     lanes = entered-all es key message lanes2 (are-same es lanes lanes2 same is.lanes);

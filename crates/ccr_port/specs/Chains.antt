@@ -1,8 +1,9 @@
 -- Chains of keys: each key with the keys of its neighbours, and the first and the last.
 --
 -- A point of a chain is a key, or None: the point before the first key and behind the last one.
-use Rattle.std.specs.Prelude.{◌≡◌, ℕ, zero, suc, Bool, true, false, not, ◌==◌, ◌&&◌, ◌||◌, List, [], ◌∷◌, Option, Some, None, if◌then◌else◌}
+use Rattle.std.specs.Prelude.{◌≡◌, ℕ, zero, suc, Bool, true, false, ◌==◌, List, [], ◌∷◌, Option, Some, None, if◌then◌else◌}
 use Rattle.std.specs.Option.{option_and_then}
+use Rattle.ccr_base.specs.Lists.{has_number, are_apart}
 use Rattle.ccr_port.specs.declared.links.Link.{Link}
 
 -- what stands behind a point, where the links of the keys and the first key are these
@@ -33,13 +34,7 @@ IsWayBack before point (key ∷ keys) = (before (Some key) ≡ point) × IsWayBa
 
 -- whether the key is one of these
 abbrev pub has_key : ℕ → List ℕ → Bool
-has_key key [] = false
-has_key key (other ∷ keys) = (other == key) || has_key key keys
-
--- whether no key stands twice
-abbrev pub are_apart : List ℕ → Bool
-are_apart [] = true
-are_apart (key ∷ keys) = not (has_key key keys) && are_apart keys
+has_key key keys = has_number keys key
 
 -- the keys without this one
 abbrev pub without_key : ℕ → List ℕ → List ℕ

@@ -1,9 +1,9 @@
 -- What a claim marks, by the keys of the messages.
 use Rattle.std.specs.Prelude.{◌≡◌, true, ⊤, ℕ, ◌^◌, ◌<◌, ◌≤◌, List, length, take, Option, Some, None, option_map}
 use Rattle.ccr_base.specs.declared.messages.Msg.{Msg}
+use Rattle.ccr_base.specs.Lists.{are_apart}
 use Rattle.ccr_places.specs.declared.claims.StandingClaim.{StandingClaim}
 use Rattle.ccr_port.specs.declared.claims.MarkedClaim.{MarkedClaim}
-use Rattle.ccr_port.specs.Chains.{are_apart}
 use Rattle.ccr_port.specs.Entries.{keys_of, messages_of}
 use Rattle.ccr_port.specs.Lanes.{LaneState, fitting_keys, AreLanes}
 use Rattle.ccr_port.specs.Replies.{are_at}

@@ -1,6 +1,6 @@
 //! What a claim answers, and how its messages are found, copied and taken out.
 
-ghost use Rattle.std.specs.Prelude.{◌≡◌, ◌^◌, ◌<◌, ◌≤◌, IsTrue, IfOk, length, take, slice_get, option_copied};
+ghost use Rattle.std.specs.Prelude.{◌≡◌, ◌≤◌, IsTrue, IfOk, length, take, slice_get, option_copied};
 ghost use Rattle.ccr_port.specs.Entries.{are_under, can_take, messages_of, messages_under, without_entries};
 ghost use Rattle.ccr_port.specs.Lanes.{AreLanes};
 
@@ -75,15 +75,15 @@ pub(crate) fn take_marked(items: &mut Items, lanes: &mut Vec<KeyLane>, keys: &[u
     }
 }
 
-/// The message at the place, from 0 for the oldest; none past the last.
-pub(crate) fn item_at(items: &Items, place: u32) -> Option<&Msg>
-    ensures { option_copied result ≡ slice_get (messages_of items.now) place }
+/// The message at the index, from 0 for the oldest; none past the last.
+pub(crate) fn item_at(items: &Items, index: u32) -> Option<&Msg>
+    ensures { option_copied result ≡ slice_get (messages_of items.now) index }
 {
-    if place >= items.len() {
+    if index >= items.len() {
         return None;
     }
     let mut key = items.first();
-    for _before in 0..place {
+    for _before in 0..index {
         let Some(here) = key else { unreachable!() };
         key = items.behind(here);
     }

@@ -2,7 +2,8 @@
 
 ghost use Rattle.std.specs.Prelude.{◌≡◌, ◌<◌, ◌+◌, ◌^◌, ◌++◌, ◌∷◌, ℕ, Option, [], Some, false, IsTrue, IfOk, IfErr, OnErr, length};
 ghost use Rattle.std.specs.List.{slice_get};
-ghost use Rattle.ccr_port.specs.Chains.{has_key, are_apart, behind_of, before_of, mended};
+ghost use Rattle.ccr_base.specs.Lists.{are_apart};
+ghost use Rattle.ccr_port.specs.Chains.{has_key, behind_of, before_of, mended};
 ghost use Rattle.ccr_port.specs.Entries.{keys_of, message_under, without_entry, link_at, message_at, is_kept};
 
 use crate::links::Link;
@@ -70,7 +71,7 @@ impl Items {
     /// The key behind this one.
     pub fn behind(&self, key: usize) -> Option<usize>
         requires { IsTrue (has_key key (keys_of self.now)) }
-        ensures { (place : ℕ) → slice_get (keys_of self.now) place ≡ Some key → result ≡ slice_get (keys_of self.now) (place + 1) }
+        ensures { (index : ℕ) → slice_get (keys_of self.now) index ≡ Some key → result ≡ slice_get (keys_of self.now) (index + 1) }
     {
         self.entries[key].link.behind
     }

@@ -1,6 +1,6 @@
 //! The keys of the messages that satisfy one predicate.
 
-ghost use Rattle.std.specs.Prelude.{◌≡◌, ◌<◌, ◌≤◌, ◌+◌, ℕ, Some, Option, [], IsTrue, OnOk, OnErr, length, vec_len};
+ghost use Rattle.std.specs.Prelude.{◌≡◌, ◌<◌, ◌≤◌, ◌+◌, ℕ, Some, Option, [], IsTrue, OnOk, length};
 ghost use Rattle.std.specs.Bool.{Decides};
 ghost use Rattle.std.specs.List.{slice_get};
 ghost use Rattle.ccr_port.specs.Chains.{has_key, behind_of, before_of, mended};
@@ -74,7 +74,7 @@ impl KeyLane {
     /// The key behind this one.
     pub fn behind(&self, key: usize) -> Option<usize>
         requires { IsTrue (has_key key self.now.keys) }
-        ensures { (place : ℕ) → slice_get self.now.keys place ≡ Some key → result ≡ slice_get self.now.keys (place + 1) }
+        ensures { (index : ℕ) → slice_get self.now.keys index ≡ Some key → result ≡ slice_get self.now.keys (index + 1) }
     {
         self.links[key].behind
     }

@@ -1,6 +1,6 @@
 //! The lanes of a port: one for each predicate that a claim has named.
 
-ghost use Rattle.std.specs.Prelude.{◌≡◌, ℕ, true, IsTrue, IfOk, OnOk, map};
+ghost use Rattle.std.specs.Prelude.{◌≡◌, ℕ, IsTrue, IfOk, OnOk, map};
 ghost use Rattle.std.specs.List.{list_all};
 ghost use Rattle.ccr_port.specs.Lanes.{AreLanes, AreSame, HasLane, can_enter, can_leave, entered, fitting_keys, have_room, left};
 

@@ -1,6 +1,6 @@
 //! The queue.
 
-ghost use Rattle.std.specs.Prelude.{◌≡◌, ◌+◌, ◌-◌, ◌∷◌, [], ◌++◌, drop, length, slice_get, IsTrue, IfOk, OnErr, Option, Some, None, if◌then◌else◌, nat_le};
+ghost use Rattle.std.specs.Prelude.{◌≡◌, ◌+◌, ◌-◌, ◌∷◌, [], ◌++◌, drop, slice_get, IsTrue, IfOk, OnErr, Option, Some, None, if◌then◌else◌, nat_le};
 ghost use Rattle.std.specs.Option.{option_map};
 ghost use Rattle.ccr_places.specs.Queues.{start, may_book as can_book, is_booked, fullness as fullness_at, fresh_count, drop_count, book_note, put_note, take_note, after_book, after_unbook, with_newest, without_dropped, after_put, after_take, after, IsGiven};
 ghost use Rattle.ccr_places.specs.declared.notes.Note.TheVariants.{Book, Unbook, Put, Take};

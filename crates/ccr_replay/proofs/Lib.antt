@@ -1,13 +1,13 @@
 pub mod TurnSaid
 pub mod TurnsSaid
 mod TurnsAnswered
-pub mod Again
+pub mod SchedulesGiveRuns
 pub mod EntryParts
 pub mod FirstLine
 pub mod Splits
 pub mod NoRecord
 pub mod Cuts
-pub mod Exact
-pub mod Answered
-pub mod Round
+pub mod ReadingIsExact
+pub mod AnswersTellTexts
+pub mod RecordsAreReadAgain
 mod Worked

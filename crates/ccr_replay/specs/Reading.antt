@@ -1,10 +1,12 @@
 -- Reading a record: the wiring, then line by line, and the first line that offends with its code.
 use Rattle.std.specs.Prelude.{ℕ, ◌+◌, ◌-◌, ◌==◌, max, nat_le, nat_lt, List, [], ◌∷◌, length, take, drop, filter, codes, Result, Ok, Err, if◌then◌else◌}
 use Rattle.std.specs.Str.{bytes_eq}
+use Rattle.ccr_base.specs.Bounds.{most_wiring_bytes, most_workers}
 use Rattle.ccr_text.specs.declared.lines.Line.{Line}
 use Rattle.ccr_text.specs.Lines.{cut, line_of, numbered, numbered_line}
 use Rattle.ccr_text.specs.Fields.{Words, ◌>>=◌, word, no_more, unless, or_code}
 use Rattle.ccr_text.specs.Words.{is_comment, number_of}
+use Rattle.ccr_wiring.specs.Actors.{actor_count}
 use Rattle.ccr_wiring.specs.declared.parts.Parts.{Parts}
 use Rattle.ccr_wiretext.specs.Reading.{reading_text, at_line as on_line}
 use Rattle.ccr_replay.specs.Turns.{reading_turns}
@@ -45,7 +47,7 @@ line_at index text = length (filter (λ b. b == 10) (take index text)) + 1
 
 -- the wiring that the part says, or the first offending line and its code: of a longer part than a wiring text may be, that of the first byte too many
 abbrev pub reading_part : List ℕ → Result Parts (ℕ × ℕ)
-reading_part part = if nat_lt 1048576 (length part) then Err (line_at 1048576 part, 10) else reading_text part
+reading_part part = if nat_lt most_wiring_bytes (length part) then Err (line_at most_wiring_bytes part, 10) else reading_text part
 
 -- ---- one line
 
@@ -53,7 +55,7 @@ reading_part part = if nat_lt 1048576 (length part) then Err (line_at 1048576 pa
 abbrev pub workers_of : List ℕ → Words → Result ℕ ℕ
 workers_of digits words = do
   workers ← or_code (number_of digits) 5
-  few ← unless (nat_le workers 16) 10
+  few ← unless (nat_le workers most_workers) 10
   whole ← no_more words
   Ok workers
 
@@ -119,7 +121,7 @@ turns_behind actors number bytes =
 -- the record of this wiring and so many workers, which stands behind their line
 abbrev pub record_behind : Parts → ℕ → ℕ → List ℕ → Result Record (ℕ × ℕ)
 record_behind wiring number workers bytes =
-    and_then (turns_behind (length wiring.posters + workers) number bytes) (λ turns. Ok (record { wiring = wiring; workers = workers; turns = turns }))
+    and_then (turns_behind (actor_count wiring workers) number bytes) (λ turns. Ok (record { wiring = wiring; workers = workers; turns = turns }))
 
 -- the record of this wiring, where so many lines stand before its line and the bytes have these lines. Without a line code 16 stands at the last
 abbrev pub reading_lines : Parts → ℕ → List ℕ → List (List ℕ) → Result Record (ℕ × ℕ)

@@ -6,6 +6,10 @@ use Rattle.ccr_text.specs.Lines.{cut, numbered}
 use Rattle.ccr_text.specs.Fields.{Words, ◌>>=◌, word, no_more, unless, or_code}
 use Rattle.ccr_text.specs.Words.{is_comment, number_of}
 
+-- the lines before a text of turns, or before what stands behind the turns of a record, at most: so each line has a number of 32 bits
+abbrev pub most_lines_before : ℕ
+most_lines_before = 4000000000
+
 -- the words behind `turn` are the number of one of so many actors
 abbrev pub actor_in : ℕ → Words → Result ℕ ℕ
 actor_in actors words = do

@@ -7,11 +7,12 @@ ghost use Rattle.ccr_wiretext.specs.Answers.{IsReading};
 ghost use Rattle.ccr_replay.specs.Answers.{SaysNothing};
 ghost use Rattle.ccr_replay.specs.Grammar.{Says};
 ghost use Rattle.ccr_replay.specs.Reading.{after_feed, ending, line_at, part_before, reading_behind, reading_part, reading_record, record_behind, skipped_lines, turns_behind};
+ghost use Rattle.ccr_replay.specs.Turns.{most_lines_before};
 
 use crate::lines::{done_on, skipped_on, workers_on};
 use crate::read_turns;
 use crate::records::Record;
-use crate::refusals::{Code, refused};
+use crate::refusals::{RecordCode, refused};
 use ccr_actor::actor_count;
 use ccr_base::{ActorNo, List};
 use ccr_text::{cut_line, line_of, numbered_line};
@@ -41,7 +42,7 @@ pub fn read_part(alloc: Global, part: &[u8]) -> Result<Wiring, ReadRefused>
 {
     if part.len() > MAX_WIRING_TEXT {
         let line = line_at(MAX_WIRING_TEXT, part);
-        return Err(refused(line, Code::Limit));
+        return Err(refused(line, RecordCode::Limit));
     }
     read_wiring(alloc, part)
 }
@@ -49,7 +50,7 @@ pub fn read_part(alloc: Global, part: &[u8]) -> Result<Wiring, ReadRefused>
 /// All lines of the text are skipped, where so many stand before them.
 fn read_skipped(alloc: Global, text: &[u8], before: u32) -> Result<(), ReadRefused>
     requires text { length text.now ≤ most_bytes }
-    requires before { before ≤ 100000000 }
+    requires before { before ≤ most_lines_before }
     ensures { IsReading result (skipped_lines (numbered (before + 1) (cut text.now))) }
 {
     let mut rest = text;
@@ -71,11 +72,11 @@ fn read_skipped(alloc: Global, text: &[u8], before: u32) -> Result<(), ReadRefus
 /// The last line of the record, and skipped ones behind it.
 fn read_ending(alloc: Global, text: &[u8], before: u32) -> Result<(), ReadRefused>
     requires text { length text.now ≤ most_bytes }
-    requires before { before ≤ 70000000 }
+    requires before { before < most_lines_before }
     ensures { IsReading result (ending before (cut text.now)) }
 {
     if text.is_empty() {
-        return Err(refused(before, Code::Ending));
+        return Err(refused(before, RecordCode::Ending));
     }
     let (bytes, after) = cut_line(text);
     let Ok(line) = numbered_line(alloc, before + 1, bytes) else {
@@ -150,7 +151,7 @@ fn read_behind(
     ensures turns { IfOk result (λ read. All (λ actor. actor < length read.wiring.posters + read.workers) read.turns) }
 {
     if text.is_empty() {
-        return Err(refused(before.max(1), Code::NoRecord));
+        return Err(refused(before.max(1), RecordCode::NoRecord));
     }
     let (bytes, after) = first_line(text);
     let Ok(line) = numbered_line(alloc, before + 1, bytes) else {

@@ -7,7 +7,7 @@ use ccr_wiretext::ReadRefused;
 
 /// What is wrong with a line, of a record or of turns alone.
 #[derive(Clone, Copy)]
-pub enum Code {
+pub enum RecordCode {
     /// The line isn't clean.
     Unclean,
     /// Another word stands where `1` or `0` has to, or the first word isn't `turn`.
@@ -24,25 +24,25 @@ pub enum Code {
     Ending,
 }
 
-impl Code {
+impl RecordCode {
     /// The number of the code (docs/FORMATS.md).
     fn number(self) -> u8
         ensures { result ≡ code_number self }
     {
         match self {
-            Code::Unclean => 1,
-            Code::Keyword => 3,
-            Code::WordCount => 4,
-            Code::Number => 5,
-            Code::Limit => 10,
-            Code::NoRecord => 16,
-            Code::Ending => 17,
+            RecordCode::Unclean => 1,
+            RecordCode::Keyword => 3,
+            RecordCode::WordCount => 4,
+            RecordCode::Number => 5,
+            RecordCode::Limit => 10,
+            RecordCode::NoRecord => 16,
+            RecordCode::Ending => 17,
         }
     }
 }
 
 /// The line is refused with the code.
-pub fn refused(line: u32, code: Code) -> ReadRefused
+pub fn refused(line: u32, code: RecordCode) -> ReadRefused
     ensures { result ≡ refused line code }
 {
     ReadRefused::At {

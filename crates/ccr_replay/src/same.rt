@@ -10,32 +10,14 @@ fn same_task(one: Option<TaskId>, other: Option<TaskId>) -> bool
     ensures yes { result ≡ true → one ≡ other }
     ensures no { result ≡ false → one ≡ other → ⊥ }
 {
-    match one {
-        None => match other {
-            None => true,
-            Some(_) => false,
-        },
-        Some(first) => match other {
-            None => false,
-            Some(second) => first == second,
-        },
-    }
+    one == other
 }
 
 fn same_number(one: Option<u32>, other: Option<u32>) -> bool
     ensures yes { result ≡ true → one ≡ other }
     ensures no { result ≡ false → one ≡ other → ⊥ }
 {
-    match one {
-        None => match other {
-            None => true,
-            Some(_) => false,
-        },
-        Some(first) => match other {
-            None => false,
-            Some(second) => first == second,
-        },
-    }
+    one == other
 }
 
 fn same_causes(one: &[CauseNo], other: &[CauseNo]) -> bool

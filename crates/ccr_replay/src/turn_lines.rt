@@ -5,7 +5,7 @@ ghost use Rattle.std.specs.List.{All};
 ghost use Rattle.ccr_base.specs.Bounds.{most_bytes};
 ghost use Rattle.ccr_wiretext.specs.Answers.{IsReading};
 ghost use Rattle.ccr_replay.specs.Answers.{TurnsSayNothing};
-ghost use Rattle.ccr_replay.specs.Turns.{reading_turns, option_list};
+ghost use Rattle.ccr_replay.specs.Turns.{most_lines_before, reading_turns, option_list};
 ghost use Rattle.ccr_replay.specs.TurnGrammar.{Says};
 
 use crate::refusals::refused;
@@ -32,7 +32,7 @@ fn read_lines(
     actors: u32,
 ) -> Result<List<ActorNo>, ReadRefused>
     requires text { length text.now ≤ most_bytes }
-    requires before { lines_before ≤ 4000000000 }
+    requires before { lines_before ≤ most_lines_before }
     ensures { IsReading result (reading_turns text.now lines_before actors) }
 {
     let mut turns = List::new(alloc);
@@ -66,7 +66,7 @@ pub fn read_turns(
     actors: u32,
 ) -> Result<List<ActorNo>, ReadRefused>
     requires text { length text.now ≤ most_bytes }
-    requires before { lines_before ≤ 4000000000 }
+    requires before { lines_before ≤ most_lines_before }
     ensures reading { IsReading result (reading_turns text.now lines_before actors) }
     ensures below { IfOk result (λ turns. All (λ actor. actor < actors) turns) }
     ensures grammar { IfOk result (λ turns. Says text.now actors turns) }

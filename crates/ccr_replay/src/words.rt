@@ -2,7 +2,7 @@
 
 ghost use Rattle.std.specs.Prelude.{◌≡◌, ◌++◌, ◌∷◌, [], OnOk, codes, decimal};
 ghost use Rattle.ccr_trace.specs.HistoryText.{behind, dropped_words};
-ghost use Rattle.ccr_trace.specs.Words.{branch_names, message_word, task_word};
+ghost use Rattle.ccr_trace.specs.Words.{branch_names, task_word};
 ghost use Rattle.ccr_replay.specs.Steps.{by_words, claim_words, full_words, how_words, note_words, number_or_none, place_words, task_or_none};
 
 use ccr_base::{By, How, List, Name, OutOfMemory, Place, Spot, TaskId};

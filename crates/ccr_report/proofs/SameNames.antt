@@ -9,6 +9,7 @@ use Rattle.std.specs.List.{list_any}
 use Rattle.std.specs.Map.{lookup}
 use Rattle.ccr_base.specs.contracts.names.MsgIdPartialEq.TheImpl.{ghosts as names}
 use Rattle.ccr_base.specs.Names.{same_message, has_message}
+use Rattle.ccr_base.proofs.Lists.{any_same}
 use Rattle.ccr_model.proofs.SameNames.{same_message-sym}
 
 -- whether a name stands among one name more
@@ -30,17 +31,13 @@ derived_message (Script a k) (Task t j) = refl
 derived_message (Task s i) (Script b l) = refl
 derived_message (Task s i) (Task t j) = refl
 
-pub list_any_same : {X : Type 0} (p q : X → Bool) → ((x : X) → p x ≡ q x) → (xs : List X) → list_any p xs ≡ list_any q xs
-list_any_same p q same [] = refl
-list_any_same p q same (x ∷ xs) = ap (λ (b : Bool). b || list_any p xs) (same x) ∙ ap (λ (b : Bool). q x || b) (list_any_same p q same xs)
-
 -- a set after one name more
 pub message_inserted : (old new : List MsgId) (key name : MsgId) → list_any (names.eq name) new ≡ cond (names.eq key name) true (list_any (names.eq name) old) → list_any (same_message name) new ≡ cond (same_message key name) true (list_any (same_message name) old)
 message_inserted old new key name updates =
-    sym (list_any_same (names.eq name) (same_message name) (derived_message name) new)
+    sym (any_same (names.eq name) (same_message name) new (derived_message name))
     ∙ updates
     ∙ ap (λ (b : Bool). cond b true (list_any (names.eq name) old)) (derived_message key name)
-    ∙ ap (λ (b : Bool). cond (same_message key name) true b) (list_any_same (names.eq name) (same_message name) (derived_message name) old)
+    ∙ ap (λ (b : Bool). cond (same_message key name) true b) (any_same (names.eq name) (same_message name) old (derived_message name))
 
 pub lookup_same : {K X : Type 0} (p q : K → Bool) → ((x : K) → p x ≡ q x) → (entries : List (K × X)) → lookup p entries ≡ lookup q entries
 lookup_same p q same [] = refl

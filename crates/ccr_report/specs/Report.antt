@@ -16,7 +16,11 @@ use Rattle.ccr_model.specs.Tasks.{put_into}
 
 -- the line of a port
 abbrev pub port_words : List Event → ℕ → List ℕ → List (List ℕ)
-port_words history port name = codes "port" ∷ name ∷ codes "posted" ∷ decimal (length (posted history port)) ∷ codes "taken" ∷ decimal (length (taken_at history port)) ∷ codes "held" ∷ decimal (length (held history port)) ∷ []
+port_words history port name =
+    codes "port" ∷ name
+    ∷ codes "posted" ∷ decimal (length (posted history port))
+    ∷ codes "taken" ∷ decimal (length (taken_at history port))
+    ∷ codes "held" ∷ decimal (length (held history port)) ∷ []
 
 -- the lines of the ports, of which the first has this number
 abbrev pub port_lines : List Event → ℕ → List (List ℕ) → List (List (List ℕ))
@@ -29,7 +33,10 @@ spot_words branches history spot = codes "branch" ∷ spot_word branches spot �
 
 -- the line of a queue
 abbrev pub queue_words : Parts → List Event → ℕ → QueuePart → List (List ℕ)
-queue_words wiring history queue part = codes "queue" ∷ part.name ∷ codes "put" ∷ decimal (length (put_into wiring history queue)) ∷ codes "dropped" ∷ decimal (length (dropped_at wiring history queue)) ∷ []
+queue_words wiring history queue part =
+    codes "queue" ∷ part.name
+    ∷ codes "put" ∷ decimal (length (put_into wiring history queue))
+    ∷ codes "dropped" ∷ decimal (length (dropped_at wiring history queue)) ∷ []
 
 -- the lines of the queues, of which the first has this number
 abbrev pub queue_lines : Parts → List Event → ℕ → List QueuePart → List (List (List ℕ))
@@ -60,7 +67,12 @@ total_words total = codes "total" ∷ codes "posted" ∷ decimal total.posted �
 
 -- a line for each port, spot and queue, and the totals
 abbrev pub report_lines : Parts → List Event → List (List (List ℕ))
-report_lines wiring history = (codes "report" ∷ codes "1" ∷ []) ∷ (port_lines history 0 wiring.ports ++ map (spot_words (branch_names wiring) history) (spots wiring) ++ queue_lines wiring history 0 wiring.queues ++ total_words (totals history) ∷ [])
+report_lines wiring history =
+    (codes "report" ∷ codes "1" ∷ [])
+    ∷ (port_lines history 0 wiring.ports
+    ++ map (spot_words (branch_names wiring) history) (spots wiring)
+    ++ queue_lines wiring history 0 wiring.queues
+    ++ total_words (totals history) ∷ [])
 
 -- the report on the history
 abbrev pub report_text : Parts → List Event → List ℕ

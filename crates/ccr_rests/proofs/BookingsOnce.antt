@@ -32,9 +32,9 @@ use Rattle.ccr_runs.specs.EntryRuns.{IsRunAfter, Lacks, made_by, notes_at, reply
 use Rattle.ccr_runs.specs.Visible.{visible}
 use Rattle.ccr_net.proofs.Kept.WholeInvariant.{Holds, begins, IsBegun}
 use Rattle.ccr_net.proofs.Parts.TasksAreBookedOnce.{in-less, in-more}
-use Rattle.ccr_net.proofs.Parts.Invariant.{IsOwed}
+use Rattle.ccr_net.proofs.Parts.PortsAndHandsMatch.{IsOwed}
 use Rattle.ccr_net.proofs.Parts.MeterMatches.{bit}
-use Rattle.ccr_net.proofs.Parts.NotesGiven.{Given, given_some}
+use Rattle.ccr_net.proofs.Parts.NotesAnswerAsks.{Given, given_some}
 use Rattle.ccr_net.proofs.Owed.NotedOversAreOver.{is_over_ask}
 use Rattle.ccr_net.proofs.Owed.EntriesChangeOwing.{is_quiet}
 use Rattle.ccr_net.proofs.Owed.PutTasksAreBooked.{is_booked_at}

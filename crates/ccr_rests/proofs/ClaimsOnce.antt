@@ -28,9 +28,9 @@ use Rattle.ccr_runs.specs.Places.{note_of, port_note}
 use Rattle.ccr_runs.specs.EntryRuns.{IsRunAfter, Lacks, made_by, notes_at, port_at, same_place, state_of}
 use Rattle.ccr_runs.specs.Visible.{visible}
 use Rattle.ccr_net.proofs.Kept.WholeInvariant.{Holds}
-use Rattle.ccr_net.proofs.Parts.Invariant.{IsOwed}
+use Rattle.ccr_net.proofs.Parts.PortsAndHandsMatch.{IsOwed}
 use Rattle.ccr_net.proofs.Parts.MeterMatches.{bit}
-use Rattle.ccr_net.proofs.Parts.NotesGiven.{Given, given_some}
+use Rattle.ccr_net.proofs.Parts.NotesAnswerAsks.{Given, given_some}
 use Rattle.ccr_net.proofs.Owed.NotedOversAreOver.{is_over_ask}
 use Rattle.ccr_net.proofs.Owed.EntriesChangeOwing.{is_quiet}
 use Rattle.ccr_net.proofs.Owed.OwedClaimsStand.{is_claimed}

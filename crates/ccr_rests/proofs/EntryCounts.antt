@@ -7,12 +7,11 @@ use Rattle.ccr_base.specs.declared.names.TaskId.{TaskId}
 use Rattle.ccr_base.specs.Names.{has_task}
 use Rattle.ccr_wiring.specs.declared.parts.Parts.{Parts}
 use Rattle.ccr_base.proofs.Booleans.{both}
-use Rattle.ccr_model.proofs.Members.{Among, Among-either}
+use Rattle.ccr_model.proofs.Members.{Among, Among-either, Among-kept}
 use Rattle.ccr_places.specs.declared.notes.Note.{Note}
 use Rattle.ccr_runs.specs.declared.entries.Entry.{Entry}
 use Rattle.ccr_runs.specs.EntryRuns.{Lacks, IsRunAfter, made_by, same_place}
 use Rattle.ccr_net.proofs.Parts.MeterMatches.{bit}
-use Rattle.ccr_net.proofs.Parts.NotesGiven.{filter_among}
 use Rattle.ccr_rests.specs.Ends.{EndsOnce, tells, telling, telling_of}
 
 abbrev pub count : (Note → List TaskId) → Place → TaskId → List Entry → ℕ
@@ -67,14 +66,14 @@ some_telling names pl t es some = of (telling names pl t es) refl
   where
     of : (xs : List Entry) → telling names pl t es ≡ xs → (x : Entry) × Among x es × (has_task (names x.note) t ≡ true)
     of [] at = absurd (let none = ap length at in omega (arith, none, some))
-    of (x ∷ xs) at = let there = subst (Among x) (sym at) (inl refl) in (x, filter_among (tells names pl t) es x there, (both (same_place x.place pl) (has_task (names x.note) t) (passing (tells names pl t) es x there)).1)
+    of (x ∷ xs) at = let there = subst (Among x) (sym at) (inl refl) in (x, Among-kept (tells names pl t) es x there, (both (same_place x.place pl) (has_task (names x.note) t) (passing (tells names pl t) es x there)).1)
 
 -- one began it, and no other, and the entry alone ends it
 pub ends_once : (begins ends : Note → List TaskId) (pl : Place) (t : TaskId) (past : List Entry) (e : Entry) (more : List Entry) → AreOwn begins past → tells ends pl t e ≡ true → count begins pl t past ≡ 1 → count ends pl t past ≡ 0 → count begins pl t (past ++ e ∷ more) ≤ 1 → count ends pl t (past ++ e ∷ more) ≤ 1 → EndsOnce begins ends pl t past e more
 ends_once begins ends pl t past e more own is one none few few_ends = record {
   beginning = found.0;
   begun = found.1;
-  by_itself = own found.0 (filter_among (tells begins pl t) past found.0 among) t (both (same_place found.0.place pl) (has_task (begins found.0.note) t) (passing (tells begins pl t) past found.0 among)).1;
+  by_itself = own found.0 (Among-kept (tells begins pl t) past found.0 among) t (both (same_place found.0.place pl) (has_task (begins found.0.note) t) (passing (tells begins pl t) past found.0 among)).1;
   not_begun_later = none_of (telling begins pl t (e ∷ more)) (let all = count-append begins pl t past (e ∷ more) in omega (arith, all, one, few));
   not_ended_before = none_of (telling ends pl t past) none;
   not_ended_later = none_of (telling ends pl t more) (let all = count-append ends pl t past (e ∷ more) in let first = count-first ends pl t e more in let here = ap bit is in omega (arith, all, first, here, few_ends));

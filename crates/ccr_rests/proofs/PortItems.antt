@@ -1,7 +1,6 @@
 -- What a port keeps was posted there.
-use Rattle.std.proofs.Common.{inl, inr, ◌⊎◌, ◌≡◌, ◌<◌, ℕ, suc, ◌+◌, ◌-◌, Bool, true, false, ◌&&◌, List, [], ◌∷◌, ◌++◌, length, Option, Some, None, refl, sym, arith, ◌∙◌, subst}
+use Rattle.std.proofs.Common.{inl, inr, ◌⊎◌, ◌≡◌, ◌<◌, ℕ, ◌+◌, ◌-◌, Bool, true, false, ◌&&◌, List, [], ◌∷◌, ◌++◌, length, Option, Some, None, refl, sym, arith, ◌∙◌, subst}
 use Rattle.std.specs.Prelude.{◌==◌, if◌then◌else◌, nat_lt, ◌^◌}
-use Rattle.std.specs.List.{Contains}
 use Rattle.std.specs.Option.{option_map_or}
 use Rattle.std.proofs.lemmas.Grind.{common_steps}
 use Rattle.ccr_base.specs.declared.messages.Msg.{Msg}
@@ -14,7 +13,7 @@ use Rattle.ccr_wiring.specs.declared.parts.Parts.{Parts}
 use Rattle.ccr_model.specs.declared.history.Event.{Event}
 use Rattle.ccr_model.specs.Posts.{posted}
 use Rattle.ccr_base.proofs.Booleans.{both}
-use Rattle.ccr_model.proofs.Members.{Among, Among-either, Among-left, Among-right, Among-take}
+use Rattle.ccr_model.proofs.Members.{Among, Among-either, Among-left, Among-right, Among-take, Among-kept}
 use Rattle.ccr_places.specs.declared.claims.StandingClaim.{StandingClaim}
 use Rattle.ccr_places.specs.declared.notes.ClaimNote.{ClaimNote}
 use Rattle.ccr_places.specs.declared.notes.ClaimNote.TheVariants.{Got, Busy, Short}
@@ -28,12 +27,12 @@ use Rattle.ccr_runs.specs.declared.entries.Entry.{Entry}
 use Rattle.ccr_runs.specs.Places.{note_of, port_note}
 use Rattle.ccr_runs.specs.EntryRuns.{IsRunAfter, Lacks, made_by, notes_at, port_at, same_place}
 use Rattle.ccr_runs.specs.Visible.{event_of, shown, visible}
-use Rattle.ccr_net.proofs.Parts.NotesGiven.{filter_among, given_some}
+use Rattle.ccr_net.proofs.Parts.NotesAnswerAsks.{given_some}
 use Rattle.ccr_net.proofs.Played.PlacesByNumber.{same_place-is}
 use Rattle.ccr_net.proofs.Parts.OneMoreEntry.{Step, Step-made, along_run, port_at-push, visible-push}
 
 pub among_fitting : (k : ℕ) (pred : Pred) (ms : List Msg) (m : Msg) → Among m (first_fitting k pred ms) → Among m ms
-among_fitting k pred ms m is = filter_among (λ (x : Msg). holds pred x.value) ms m (Among-take k (fitting pred ms) m is)
+among_fitting k pred ms m is = Among-kept (λ (x : Msg). holds pred x.value) ms m (Among-take k (fitting pred ms) m is)
 
 among_without : (k : ℕ) (pred : Pred) (ms : List Msg) (m : Msg) → Among m (without_first k pred ms) → Among m ms
 among_without k pred [] m is = is
@@ -43,11 +42,6 @@ among_without k pred (x ∷ ms) m is = by (holds pred x.value && nat_lt 0 k) is 
     by true there one rest = inr (one there)
     by false (inl same) one rest = inl same
     by false (inr there) one rest = inr (rest there)
-
-pub Contains-among : {X : Type 0} (xs : List X) (x : X) → Among x xs → Contains xs x
-Contains-among (y ∷ xs) x (inl same) = (0, omega arith, sym same)
-Contains-among (y ∷ xs) x (inr more) = let found = Contains-among xs x more in (suc found.0, (let low = found.1 in omega (arith, low)), found.2)
-Contains-among [] x is = absurd is
 
 -- the port keeps its number, and only what was posted to it
 pub record KeepsPosted (h : List Event) (p : ℕ) (port : PortState) : Type 0 where

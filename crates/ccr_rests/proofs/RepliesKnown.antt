@@ -31,8 +31,8 @@ use Rattle.ccr_base.proofs.Booleans.{or_left, or_right, same_number}
 use Rattle.ccr_model.proofs.Cutting.{AdmitFacts, AdmitFacts-allowed}
 use Rattle.ccr_model.proofs.FiredTasks.{IsFired, IsFired-append, fired_has}
 use Rattle.ccr_model.proofs.AllowedFirings.{FiresSo-allowed, WaitingFacts, WaitingFacts-waiting, fired_by_named, firing_named-new}
-use Rattle.ccr_model.proofs.Members.{Among}
-use Rattle.ccr_model.proofs.Pushes.{cut-push, dropped-push, started-push}
+use Rattle.ccr_model.proofs.Members.{Among, Contains-among, Among-kept}
+use Rattle.ccr_model.proofs.OneMoreEvent.{cut-push, dropped-push, started-push}
 use Rattle.ccr_model.proofs.SameNames.{same_task-self}
 use Rattle.ccr_model.proofs.TaskLists.{among_left, among_right}
 use Rattle.ccr_model.proofs.TaskPlaces.{ArePlaced, ArePlaced-legal}
@@ -65,7 +65,7 @@ use Rattle.ccr_net.proofs.Known.AsksAreKnown.{IsNamed}
 use Rattle.ccr_net.proofs.Known.CausesAreKnown.{AreFine, all_of, fine_causes, posted_fine}
 use Rattle.ccr_net.proofs.Known.RunsAreKnown.{next_named}
 use Rattle.ccr_net.proofs.Known.TasksAreKnown.{view_known, view_queue}
-use Rattle.ccr_net.proofs.Parts.NotesGiven.{Given, filter_among, given_some}
+use Rattle.ccr_net.proofs.Parts.NotesAnswerAsks.{Given, given_some}
 use Rattle.ccr_net.proofs.Owed.OwedByOneOnce.{last_allowed}
 use Rattle.ccr_net.proofs.Played.PlayedRunsAreRuns.{run_on}
 use Rattle.ccr_net.proofs.Played.HoldersOfTasksAnswer.{run_holds}
@@ -74,7 +74,7 @@ use Rattle.ccr_rests.specs.Replies.{HasRetired, IsCutOf, IsHanded, IsItem, Names
 use Rattle.ccr_rests.proofs.ClaimsOnce.{claimed_low}
 use Rattle.ccr_rests.proofs.NoteKinds.{kind_asked, kind_noted}
 use Rattle.ccr_rests.proofs.EntryCounts.{passing}
-use Rattle.ccr_rests.proofs.PortItems.{Contains-among, all_posted, among_fitting, posted_on}
+use Rattle.ccr_rests.proofs.PortItems.{all_posted, among_fitting, posted_on}
 use Rattle.ccr_rests.proofs.Rising.{Tries, tries}
 use Rattle.ccr_net.proofs.Owed.OversMayBeNoted.{first_has}
 
@@ -235,7 +235,7 @@ module _ (w : Parts) (workers : ℕ) (lacks : Lacks) (valid : IsValid w) (few : 
       there = subst (λ g. Among m (posted g p)) (sym shows) (posted_on (visible past) (event_of e) p m old)
 
       fine : (m.port < length w.ports) × AreFine (length w.causes) m.causes
-      fine = posted_fine w (sound w valid) (visible past) before.legal m (filter_among (λ (x : Msg). x.port == p) (posts (visible past)) m old)
+      fine = posted_fine w (sound w valid) (visible past) before.legal m (Among-kept (λ (x : Msg). x.port == p) (posts (visible past)) m old)
 
       at : m.port ≡ p
       at = same_number m.port p (passing (λ (x : Msg). x.port == p) (posts (visible past)) m old)

@@ -45,7 +45,7 @@ use Rattle.ccr_net.proofs.Parts.ArbitersMatch.{fired_note, fired_there, is_of, n
 use Rattle.ccr_net.proofs.Kept.WholeInvariant.{Holds}
 use Rattle.ccr_net.proofs.Parts.TasksAreBookedOnce.{in-less, in-more}
 use Rattle.ccr_net.proofs.Parts.MeterMatches.{bit}
-use Rattle.ccr_net.proofs.Parts.NotesGiven.{given_some}
+use Rattle.ccr_net.proofs.Parts.NotesAnswerAsks.{given_some}
 use Rattle.ccr_net.proofs.Owed.NotedOversAreOver.{is_over_ask, noted_other, noted_over}
 use Rattle.ccr_net.proofs.Played.PlacesByNumber.{same_place-is}
 use Rattle.ccr_net.proofs.Played.PlayedRunsAreRuns.{run_on}

@@ -5,7 +5,8 @@ use Rattle.std.specs.Prelude.{All, Some, slice_get, slice_set}
 use Rattle.std.proofs.Math.ListN.{get_or}
 use mathlib.Core.Logic.{dite}
 use native.Mathlib.Decide.{ℕ_discrete}
-use Rattle.ccr_turns.specs.Lists.{Each, Rises}
+use Rattle.ccr_turns.specs.Lists.{Rises}
+use Rattle.ccr_base.specs.Lists.{Each}
 use Rattle.ccr_turns.specs.Histories.{history_stamps}
 use Rattle.ccr_turns.proofs.Rows.{all_at, there_by_slice}
 use Rattle.ccr_turns.specs.declared.history.Held.{Held}

@@ -8,7 +8,8 @@ use Rattle.std.specs.Ordering.{is_lt, nat_cmp}
 use Rattle.std.proofs.lemmas.Bool.{leb-true, leb-false}
 use Rattle.std.proofs.lemmas.List.Elements.{filter-append}
 use Rattle.ccr_turns.specs.Histories.{history_stamps}
-use Rattle.ccr_turns.specs.Lists.{Rises, Each}
+use Rattle.ccr_turns.specs.Lists.{Rises}
+use Rattle.ccr_base.specs.Lists.{Each}
 use Rattle.ccr_turns.specs.declared.history.Held.{Held}
 use Rattle.ccr_turns.proofs.Rows.{all_from_each}
 use Rattle.ccr_runs.specs.declared.acts.Act.{Act}

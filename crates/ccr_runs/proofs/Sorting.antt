@@ -4,7 +4,8 @@ use mathlib.Core.Logic.{dite}
 use native.Mathlib.Decide.{ℕ_discrete}
 use Rattle.std.specs.Prelude.{slice_get}
 use Rattle.ccr_turns.specs.Histories.{history_stamps}
-use Rattle.ccr_turns.specs.Lists.{Rises, Each}
+use Rattle.ccr_turns.specs.Lists.{Rises}
+use Rattle.ccr_base.specs.Lists.{Each}
 use Rattle.ccr_turns.proofs.Rows.{all_from_each}
 use Rattle.std.specs.Prelude.{All}
 use Rattle.ccr_turns.specs.declared.history.Held.{Held}

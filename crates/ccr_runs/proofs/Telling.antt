@@ -3,7 +3,8 @@ use Rattle.std.proofs.Common.{◌≡◌, ◌≢◌, ℕ, ◌+◌, ◌<◌, ◌�
 use mathlib.Core.Logic.{dite}
 use native.Mathlib.Decide.{ℕ_discrete}
 use Rattle.ccr_turns.specs.Logs.{log_stamps, log_entry, at_place, told}
-use Rattle.ccr_turns.specs.Lists.{Rises, Each, last_of}
+use Rattle.ccr_turns.specs.Lists.{Rises, last_of}
+use Rattle.ccr_base.specs.Lists.{Each}
 use Rattle.ccr_turns.specs.declared.history.LogEntry.{LogEntry}
 use Rattle.ccr_runs.specs.declared.acts.Act.{Act}
 use Rattle.ccr_runs.specs.Merges.{Climbs, act_stamps, history_at, held}

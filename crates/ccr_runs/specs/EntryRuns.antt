@@ -1,9 +1,10 @@
 -- Runs: each entry is the one that its actor's next ask makes at its place.
-use Rattle.std.specs.Prelude.{◌≡◌, ◌<◌, ℕ, suc, ◌+◌, max, Bool, true, false, ◌==◌, ◌&&◌, List, [], ◌∷◌, ◌++◌, length, map, flat_map, fold, Option, Some, None, option_map, option_and_then, if◌then◌else◌}
+use Rattle.std.specs.Prelude.{◌≡◌, ◌<◌, ℕ, suc, max, Bool, true, false, ◌==◌, ◌&&◌, List, [], ◌∷◌, ◌++◌, map, flat_map, fold, Option, Some, None, option_map, option_and_then, if◌then◌else◌}
 use Rattle.ccr_base.specs.declared.names.Place.{Place}
 use Rattle.ccr_base.specs.declared.names.Place.TheVariants as places
 use Rattle.ccr_base.specs.declared.names.Spot.{Spot}
 use Rattle.ccr_base.specs.declared.patterns.Slot.{Slot}
+use Rattle.ccr_wiring.specs.Actors.{actor_count}
 use Rattle.ccr_wiring.specs.declared.parts.Parts.{Parts}
 use Rattle.ccr_wiring.specs.Wirings.{Placement}
 use Rattle.ccr_model.specs.declared.history.Event.{Event}
@@ -107,7 +108,10 @@ next_stamp entries place actor = suc (max (last_stamp (λ e. same_place e.place 
 
 -- the entry of this ask
 abbrev pub entry_for : Parts → List Entry → ℕ → Asked → Option Entry
-entry_for wiring entries actor a = option_map (λ note. record { actor = actor; place = a.place; stamp = next_stamp entries a.place actor; note = note }) (note_of wiring a.place (notes_at entries a.place) a.ask)
+entry_for wiring entries actor a =
+    option_map
+    (λ note. record { actor = actor; place = a.place; stamp = next_stamp entries a.place actor; note = note })
+    (note_of wiring a.place (notes_at entries a.place) a.ask)
 
 -- the entry that the actor's next step adds
 abbrev pub made_by : Parts → Lacks → List Entry → ℕ → Option Entry
@@ -116,7 +120,10 @@ made_by wiring lacks entries actor = option_and_then (entry_for wiring entries a
 -- each entry is the next of its actor after those before it
 abbrev pub IsRunAfter : Parts → ℕ → Lacks → List Entry → List Entry → Type 0
 IsRunAfter wiring workers lacks past [] = Unit {0}
-IsRunAfter wiring workers lacks past (entry ∷ entries) = (entry.actor < length wiring.posters + workers) × (made_by wiring lacks past entry.actor ≡ Some entry) × IsRunAfter wiring workers lacks (past ++ entry ∷ []) entries
+IsRunAfter wiring workers lacks past (entry ∷ entries) =
+    (entry.actor < actor_count wiring workers)
+    × (made_by wiring lacks past entry.actor ≡ Some entry)
+    × IsRunAfter wiring workers lacks (past ++ entry ∷ []) entries
 
 -- a run with so many workers
 pub record IsRun (wiring : Parts) (workers : ℕ) (entries : List Entry) : Type 0 where

@@ -115,7 +115,9 @@ arbiter_note arbiter _ = None
 
 -- what an Interleave notes of an ask; nothing where it isn't for an Interleave or its condition isn't met
 abbrev pub interleave_note : InterleaveState → Ask → Option Note
-interleave_note place (asks.Commit task messages) = given (interleaves.may_commit place task) (commit_note task messages (interleaves.dead_by place) (notes.Fired task.id task.spot messages (interleaves.cut_note place task.spot)))
+interleave_note place (asks.Commit task messages) =
+    given (interleaves.may_commit place task)
+    (commit_note task messages (interleaves.dead_by place) (notes.Fired task.id task.spot messages (interleaves.cut_note place task.spot)))
 interleave_note place asks.Admit = Some (notes.Admit (interleaves.admit_note place))
 interleave_note place (asks.Over task root how) = given (interleaves.may_over place root) (notes.Over task root how)
 interleave_note place _ = None

@@ -87,7 +87,10 @@ reply_in Unmet = None
 
 -- the step of an act: what it asked at its place, and what it was replied
 abbrev pub step_of : Parts → LogEntry Deed Placed → Option Step
-step_of wiring log_entry = option_map (λ reply. record { asked = record { place = place_at wiring log_entry.place; ask = log_entry.note.ask.value }; reply = reply }) (reply_in (reply_of log_entry.before log_entry.note.ask.value))
+step_of wiring log_entry =
+    option_map
+    (λ reply. record { asked = record { place = place_at wiring log_entry.place; ask = log_entry.note.ask.value }; reply = reply })
+    (reply_in (reply_of log_entry.before log_entry.note.ask.value))
 
 -- the actor's steps in these acts
 abbrev pub steps_in : Parts → List (Act Deed) → ℕ → List Step
@@ -95,9 +98,13 @@ steps_in wiring acts actor = filter_map (step_of wiring) (story after_deed actor
 
 -- ---- the entries
 
--- the entry of an act; none where the condition of its ask wasn't met
+-- the entry of an act at this place; none where the condition of its ask wasn't met
+abbrev pub entry_at : Place → Act Deed → Option Entry
+entry_at place act = option_map (λ note. record { actor = act.seat; place = place; stamp = act.stamp; note = note }) act.note.note
+
+-- the entry of an act, at the place of its number
 abbrev pub entry_of : Parts → Act Deed → Option Entry
-entry_of wiring act = option_map (λ note. record { actor = act.seat; place = place_at wiring act.place; stamp = act.stamp; note = note }) act.note.note
+entry_of wiring act = entry_at (place_at wiring act.place) act
 
 -- the entries that the acts leave
 abbrev pub entries_of : Parts → List (Act Deed) → List Entry

@@ -1,6 +1,7 @@
 -- Runs: each entry is the next ask of its actor, and what its object gives.
 use Rattle.std.specs.Prelude.{◌≡◌, ℕ, ◌+◌, ◌<◌, max, ◌==◌, cond, List, [], ◌∷◌, Option, Some}
-use Rattle.ccr_turns.specs.Lists.{Rises, Each}
+use Rattle.ccr_turns.specs.Lists.{Rises}
+use Rattle.ccr_base.specs.Lists.{Each}
 use Rattle.ccr_turns.specs.Logs.{log_stamps, at_place, told}
 use Rattle.ccr_turns.specs.declared.history.Held.{Held}
 use Rattle.ccr_turns.specs.declared.history.LogEntry.{LogEntry}

@@ -1,6 +1,6 @@
 //! The histories of places, dealt out by their stamps.
 
-ghost use Rattle.std.specs.Prelude.{◌≡◌, ℕ, ◌<◌, ◌≤◌, ◌^◌, ◌++◌, All, drop, length, map, slice_get, IfOk, OnOk};
+ghost use Rattle.std.specs.Prelude.{◌≡◌, ◌<◌, ◌^◌, ◌++◌, All, drop, length, map, slice_get, IfOk, OnOk};
 ghost use Rattle.ccr_turns.specs.Histories.{history_stamps};
 ghost use Rattle.ccr_turns.specs.Lists.{Rises};
 ghost use Rattle.ccr_runs.specs.Deals.{key, place_of};

@@ -79,10 +79,17 @@ impl Directory {
     pub fn place(&self, number: u32) -> Place
         ensures { result ≡ unwrap_or (slice_get self.now number) Place.Meter }
     {
-        match self.places.as_slice().get(number as usize) {
-            Some(place) => *place,
-            None => Place::Meter,
-        }
+        place_at(self.places.as_slice(), number)
+    }
+}
+
+/// The place of this number; the meter where it is none.
+pub(crate) fn place_at(places: &[Place], number: u32) -> Place
+    ensures { result ≡ unwrap_or (slice_get places.now number) Place.Meter }
+{
+    match places.get(number as usize) {
+        Some(place) => *place,
+        None => Place::Meter,
     }
 }
 

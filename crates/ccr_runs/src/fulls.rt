@@ -1,9 +1,10 @@
 //! The entries of what the objects of the places did.
 
-ghost use Rattle.std.specs.Prelude.{◌≡◌, slice_get, unwrap_or, IfOk};
+ghost use Rattle.std.specs.Prelude.{◌≡◌, IfOk};
 ghost use Rattle.ccr_object.specs.Starts.{places_of as all_places};
-ghost use Rattle.ccr_runs.specs.Played.{entries_of, entry_of};
+ghost use Rattle.ccr_runs.specs.Played.{entries_of, entry_at, entry_of};
 
+use crate::directory::place_at;
 use crate::{Act, Entry, Full};
 use ccr_base::{List, OutOfMemory, Place};
 use ccr_object::{Deed, places_of};
@@ -31,8 +32,16 @@ fn entry_of(_wiring: &Wiring, places: &[Place], act: Act<Deed>) -> Option<Entry>
     requires { places.now ≡ all_places _wiring.now }
     ensures { result ≡ entry_of _wiring.now act }
 {
+    let place = place_at(places, act.place);
+    entry_at(place, act)
+}
+
+/// The entry of an act at this place; none where the condition of its ask wasn't met.
+pub fn entry_at(place: Place, act: Act<Deed>) -> Option<Entry>
+    ensures { result ≡ entry_at place act }
+{
     let Act {
-        place,
+        place: _,
         seat,
         stamp,
         note: deed,
@@ -41,18 +50,8 @@ fn entry_of(_wiring: &Wiring, places: &[Place], act: Act<Deed>) -> Option<Entry>
     let note = note?;
     Some(Entry {
         actor: seat,
-        place: place_at(places, place),
+        place,
         stamp,
         note,
     })
-}
-
-/// The place of this number; the meter where it is none.
-fn place_at(places: &[Place], number: u32) -> Place
-    ensures { result ≡ unwrap_or (slice_get places.now number) Place.Meter }
-{
-    match places.get(number as usize) {
-        Some(place) => *place,
-        None => Place::Meter,
-    }
 }

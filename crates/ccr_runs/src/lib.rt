@@ -15,7 +15,7 @@ pub use acts::Act;
 pub use dealing::Deal;
 pub use directory::Directory;
 pub use entries::{Entry, Full};
-pub use fulls::full_of;
+pub use fulls::{entry_at, full_of};
 pub use laws::{logs_are_stories, proper_logs_make_a_run};
 pub use merging::merge;
 pub use ordering::{Stamped, in_order};

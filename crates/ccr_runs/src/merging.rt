@@ -1,9 +1,8 @@
 //! The merge of the histories of places.
 
-ghost use Rattle.std.specs.Prelude.{◌≡◌, ℕ, ◌<◌, ◌≤◌, ◌^◌, ◌++◌, map, length, slice_get, All, IfOk, OnOk, Some};
+ghost use Rattle.std.specs.Prelude.{◌≡◌, ℕ, ◌<◌, ◌^◌, ◌++◌, map, length, slice_get, All, IfOk, OnOk, Some};
 ghost use Rattle.ccr_turns.specs.Histories.{history_stamps};
 ghost use Rattle.ccr_turns.specs.Lists.{Rises};
-ghost use Rattle.ccr_turns.specs.declared.history.Held.{Held as Old};
 ghost use Rattle.ccr_runs.specs.Merges.{tagged, tag, history_at, Climbs, act_stamps, IsByPlace};
 ghost use Rattle.ccr_runs.specs.Orders.{merged};
 

@@ -1,12 +1,12 @@
 //! The engine that keeps its history.
 
-ghost use Rattle.std.specs.Prelude.{◌≡◌, ◌≤◌, ◌^◌, [], length, IfOk, IfErr, IfSome, IfNone, OnErr, OnOk, Some, is_some, true};
+ghost use Rattle.std.specs.Prelude.{◌≡◌, ◌≤◌, [], length, IfOk, IfErr, IfSome, IfNone, OnErr, OnOk, Some, is_some, true};
 ghost use Rattle.ccr_base.specs.Bounds.{most_actors};
 ghost use Rattle.ccr_model.specs.Firings.{fired};
 ghost use Rattle.ccr_model.specs.Legal.{IsAllowed, IsLegal, IsQuiet, is_complete};
-ghost use Rattle.ccr_model.specs.Order.{next_attempt, IsFinished};
+ghost use Rattle.ccr_model.specs.Order.{most_attempts, next_attempt, IsFinished};
 ghost use Rattle.ccr_ledger.specs.Kept.{Keeps};
-ghost use Rattle.ccr_engine.specs.Engine.{IsSound, next_event, next_engine};
+ghost use Rattle.ccr_engine.specs.Engine.{next_event, next_engine};
 ghost use Rattle.ccr_serial.specs.Steps.{event_of};
 
 use ccr_base::{ActorNo, OutOfMemory};
@@ -31,10 +31,9 @@ pub struct Serial<'w> {
     wiring: &'w Wiring,
     closer: ActorNo,
     history: History,
-    /// The engine that makes the history, boxed, so that who drops it drops one value and not each of its tables.
-    engine: Box<Engine<'w>>,
-    /// Whether it stands at the end of the history: where there was no memory it may not.
-    current: bool,
+    /// The engine at the end of the history, or none after a call that found no memory. It is boxed, so that who drops it drops one value and
+    /// not each of its tables.
+    engine: Option<Box<Engine<'w>>>,
 }
 
 impl<'w> Model for Serial<'w> {
@@ -45,29 +44,7 @@ impl<'w> Model for Serial<'w> {
 
     ghost view = { λ s. record { wiring = s.wiring.now; closer = s.closer; history = s.history } };
 
-    ghost invariant = { λ s. IsMade (record { wiring = s.wiring.now; closer = s.closer; history = s.history }) s.engine.value s.current };
-}
-
-/// Makes the engine anew where it doesn't stand at the end of the history.
-fn make_current<'w>(
-    alloc: Global,
-    wiring: &'w Wiring,
-    closer: ActorNo,
-    history: &History,
-    engine: &mut Box<Engine<'w>>,
-    current: bool,
-) -> Result<(), OutOfMemory>
-    requires sound { IsSound (record { wiring = wiring.now; closer = closer; history = history.now }) }
-    requires made { current ≡ true → engine.old.value ≡ record { wiring = wiring.now; closer = closer; history = history.now } }
-    ensures made { OnOk result (engine.new.value ≡ record { wiring = wiring.now; closer = closer; history = history.now }) }
-    ensures err { OnErr result (engine.new.value ≡ engine.old.value) }
-{
-    if current {
-        return Ok(());
-    }
-    let made = Engine::behind(alloc, wiring, closer, history.events())?;
-    *engine = Box::new(alloc, made)?;
-    Ok(())
+    ghost invariant = { λ s. IsMade (record { wiring = s.wiring.now; closer = s.closer; history = s.history }) s.engine };
 }
 
 /// An engine that goes on behind these events.
@@ -80,7 +57,7 @@ fn resumed<'w>(
     requires no_poster { length wiring.now.posters ≤ closer }
     requires low { closer ≤ most_actors }
     requires legal { IsLegal wiring.now events.now }
-    requires attempts { next_attempt closer (fired events.now) ≤ 2 ^ 31 }
+    requires attempts { next_attempt closer (fired events.now) ≤ most_attempts }
     ensures { IfOk result (λ engine. engine.value ≡ record { wiring = wiring.now; closer = closer; history = events.now }) }
 {
     let made = Engine::resume(alloc, wiring, closer, events)?;
@@ -103,8 +80,7 @@ impl<'w> Serial<'w> {
             wiring,
             closer,
             history: History::new(alloc),
-            engine,
-            current: true,
+            engine: Some(engine),
         })
     }
 
@@ -118,7 +94,7 @@ impl<'w> Serial<'w> {
         requires no_poster { length wiring.now.posters ≤ closer }
         requires low { closer ≤ most_actors }
         requires legal { IsLegal wiring.now history }
-        requires attempts { next_attempt closer (fired history) ≤ 2 ^ 31 }
+        requires attempts { next_attempt closer (fired history) ≤ most_attempts }
         ensures ok { IfOk result (λ engine. engine ≡ record { wiring = wiring.now; closer = closer; history = history }) }
         ensures returned { IfErr result (λ refused. refused.1 ≡ history) }
     {
@@ -129,8 +105,7 @@ impl<'w> Serial<'w> {
                 wiring,
                 closer,
                 history,
-                engine,
-                current: true,
+                engine: Some(engine),
             }),
             Err(refused) => Err((refused, history)),
         }
@@ -144,6 +119,26 @@ impl<'w> Serial<'w> {
         &self.history
     }
 
+    /// Takes the engine out, or makes it anew where there is none.
+    fn take_engine(&mut self) -> Result<Box<Engine<'w>>, OutOfMemory>
+        ensures engine { IfOk result (λ engine. engine.value ≡ self.old) }
+        ensures kept { self.new ≡ self.old }
+    {
+        match self.engine.take() {
+            Some(engine) => Ok(engine),
+            None => {
+                let made = Engine::behind(
+                    self.alloc,
+                    self.wiring,
+                    self.closer,
+                    self.history.events(),
+                )?;
+                let engine = Box::new(self.alloc, made)?;
+                Ok(engine)
+            }
+        }
+    }
+
     /// The event that comes next, if any. It hasn't happened yet.
     fn next(&mut self) -> Result<Option<Event>, OutOfMemory>
         ensures event { IfOk result (λ event. event ≡ next_event self.old) }
@@ -151,17 +146,9 @@ impl<'w> Serial<'w> {
         ensures quiet { IfOk result (λ event. IfNone event (IsQuiet self.old.wiring self.old.history)) }
         ensures kept { self.new ≡ self.old }
     {
-        make_current(
-            self.alloc,
-            self.wiring,
-            self.closer,
-            &self.history,
-            &mut self.engine,
-            self.current,
-        )?;
-        self.current = false;
-        let next = self.engine.next()?;
-        self.current = true;
+        let mut engine = self.take_engine()?;
+        let next = engine.next()?;
+        self.engine = Some(engine);
         Ok(next)
     }
 
@@ -171,18 +158,10 @@ impl<'w> Serial<'w> {
         ensures history { OnOk result (self.new ≡ next_engine self.old) }
         ensures err { OnErr result (self.new ≡ self.old) }
     {
-        make_current(
-            self.alloc,
-            self.wiring,
-            self.closer,
-            &self.history,
-            &mut self.engine,
-            self.current,
-        )?;
-        self.current = false;
-        self.engine.follow(&event)?;
+        let mut engine = self.take_engine()?;
+        engine.follow(&event)?;
         self.history.append(event)?;
-        self.current = true;
+        self.engine = Some(engine);
         Ok(())
     }
 
@@ -235,16 +214,8 @@ impl<'w> Serial<'w> {
         ensures tables { IfOk result (λ made. Keeps self.entry.wiring made.0 made.1) }
     {
         'steps: while self.advance()? {}
-        let Serial {
-            alloc,
-            wiring,
-            closer,
-            history,
-            mut engine,
-            current,
-        } = self;
-        make_current(alloc, wiring, closer, &history, &mut engine, current)?;
+        let engine = self.take_engine()?;
         let tables = Box::into_inner(engine).into_ledger()?;
-        Ok((history, tables))
+        Ok((self.history, tables))
     }
 }

@@ -35,7 +35,7 @@ use Rattle.ccr_model.specs.Counts.{is_shed as is_shed_end}
 use Rattle.ccr_model.proofs.Allowing.{OneName-legal}
 use Rattle.ccr_base.proofs.Booleans.{both, no_both, or_left, or_right, refuted, eq-self, not_true, same_number, or_none}
 use Rattle.ccr_base.proofs.Options.{some-below}
-use Rattle.ccr_model.proofs.Members.{Among, Among-right}
+use Rattle.ccr_model.proofs.Members.{Among, Among-right, Among-filter}
 use Rattle.ccr_model.proofs.PostNames.{refused_not}
 use Rattle.ccr_model.proofs.SameNames.{same_message-is}
 use Rattle.ccr_model.proofs.Stable.{firings-append, play_of-append}
@@ -45,7 +45,7 @@ use Rattle.ccr_model.proofs.TaskPlaces.{ArePlaced-legal}
 use Rattle.ccr_model.proofs.FiringPlacements.{firing_with_placement}
 use Rattle.ccr_laws.specs.Occurring.{Occurs}
 use Rattle.ccr_laws.specs.OneFate.{IsHeld, IsTakenBy, HasEnded, IsIn, HasFate, HasOneFate}
-use Rattle.ccr_laws.proofs.Allowed.{allowed_at, legal_past}
+use Rattle.ccr_laws.proofs.LegalEventsWereAllowed.{allowed_at, legal_past}
 use Rattle.ccr_laws.proofs.DroppingPuts.{dropped_unstarted}
 use Rattle.ccr_laws.proofs.OneFates.{one_fate}
 use Rattle.ccr_laws.proofs.States.{is_in}
@@ -61,15 +61,14 @@ use Rattle.ccr_service.specs.Services.{IsService}
 use Rattle.ccr_service.specs.Stillness.{IsStill}
 use Rattle.ccr_service.specs.Answered.{message_of, is_response_port, responses_of, responses, HasResponse, IsAnswer, answer_by, answer_of, HasOneAnswer, IsServedWhole}
 use Rattle.ccr_service.specs.Telling.{first_post, told_by}
-use Rattle.ccr_service.proofs.Still.{AtEnd, AtEnd-quiet, still}
+use Rattle.ccr_service.proofs.QuietIsStill.{AtEnd, AtEnd-quiet, still}
 use Rattle.ccr_service.proofs.Shape.{awaits_none, one_queue}
 use Rattle.ccr_service.proofs.AtEnd.{held_torn, has_ended}
-use Rattle.ccr_service.proofs.Torn.{cut_torn, dropped_discards}
-use Rattle.ccr_service.proofs.Takings.{of_kept}
+use Rattle.ccr_service.proofs.OnlyTeardownsCut.{cut_torn, dropped_discards}
 use Rattle.ccr_service.proofs.Plays.{TakesAsk, TakesAsk-legal, play_is}
-use Rattle.ccr_service.proofs.Sent.{named_so, same_values}
+use Rattle.ccr_service.proofs.WhatExpansionsPost.{named_so, same_values}
 use Rattle.ccr_service.proofs.Replying.{running_fired, one_play, nothing_or_reply, HasReplied, unstarted_nothing, its_name, all_replies}
-use Rattle.ccr_service.proofs.Unshed.{none_shed}
+use Rattle.ccr_service.proofs.NobodyIsShed.{none_shed}
 use Rattle.ccr_service.proofs.Fitting.{valid}
 use Rattle.ccr_service.proofs.Asking.{asked, ask_posted, ask_named, posted_stands}
 
@@ -329,7 +328,7 @@ by_held : (s : ServiceParts) (h : List Event) (client index : ℕ) (ask : AskPar
 by_held s h client index ask op its is =
     let none = held_taker s h client index its.fate_so is in
     let among = contained (held h is.message.port) is.message is.among in
-    let posted_so = (of_kept (λ (m : Msg). m.port == is.message.port) (posts h) is.message (of_kept _ _ is.message among).0).0 in
+    let posted_so = (Among-filter (λ (m : Msg). m.port == is.message.port) (posts h) is.message (Among-filter _ _ is.message among).0).0 in
     let named : message_named h (Script client index) ≡ Some is.message = subst (λ n. message_named h n ≡ Some is.message) is.named (named_so (expansion s) h its.legal is.message posted_so) in
     let same : asked client index ask ≡ is.message = both_some (message_named h (Script client index)) (named_so (expansion s) h its.legal (asked client index ask) its.posted) named in
     let here : Among (asked client index ask) (held h (request_port ask.op)) = subst (λ (m : Msg). Among m (held h m.port)) (sym same) among in

@@ -9,7 +9,7 @@ use Rattle.ccr_model.specs.declared.history.Event.{Event}
 use Rattle.ccr_model.specs.declared.history.Event.TheVariants.{Post, Fire, Admit, Put, Start, End}
 use Rattle.ccr_model.specs.Posts.{posts, is_script_of, message_named}
 use Rattle.ccr_model.specs.Legal.{IsLegal, is_complete}
-use Rattle.ccr_model.proofs.Members.{Among, Among-at}
+use Rattle.ccr_model.proofs.Members.{Among, Among-at, Among-filter}
 use Rattle.ccr_laws.specs.Occurring.{Occurs}
 use Rattle.ccr_laws.specs.Scripts.{posts_by, sent_of}
 use Rattle.ccr_laws.proofs.ScriptLines.{follow, whole}
@@ -18,8 +18,7 @@ use Rattle.ccr_service.specs.declared.parts.ClientPart.{ClientPart}
 use Rattle.ccr_service.specs.declared.parts.ServiceParts.{ServiceParts}
 use Rattle.ccr_service.specs.Expansion.{request, posters_from, expansion}
 use Rattle.ccr_service.specs.Answered.{message_of}
-use Rattle.ccr_service.proofs.Sent.{named_so}
-use Rattle.ccr_service.proofs.Takings.{of_kept}
+use Rattle.ccr_service.proofs.WhatExpansionsPost.{named_so}
 
 -- the poster of a client
 abbrev poster_of : ℕ → ClientPart → PosterPart
@@ -70,7 +69,7 @@ ask_posted s h legal complete client index part ask is_client is_ask =
     let line : slice_get (map sent_of (posts_by h client)) index ≡ Some (request client ask) = ap (λ (xs : List Sent). slice_get xs index) all ∙ mapped_at (request client) part.asks index ask is_ask in
     let found = of_mapped sent_of (posts_by h client) index (request client ask) line in
     let name = (follow (expansion s) h legal client (poster_of client part) poster).names index found.0 found.1 in
-    let among = (of_kept (λ (m : Msg). is_script_of client m.id) (posts h) found.0 (Among-at (posts_by h client) index found.0 found.1)).0 in
+    let among = (Among-filter (λ (m : Msg). is_script_of client m.id) (posts h) found.0 (Among-at (posts_by h client) index found.0 found.1)).0 in
     let sent : found.0 ≡ message_of found.0.id (sent_of found.0) = refl in
     let named : message_of found.0.id (sent_of found.0) ≡ message_of (Script client index) (sent_of found.0) = ap (λ n. message_of n (sent_of found.0)) name in
     let same : found.0 ≡ asked client index ask = sent ∙ named ∙ ap (message_of (Script client index)) found.2 in

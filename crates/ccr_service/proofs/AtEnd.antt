@@ -1,12 +1,11 @@
 -- At the end of an expansion's history every task is settled, and what is held is held after a teardown.
-use Rattle.std.proofs.Common.{◌≡◌, inl, inr, ℕ, zero, suc, ◌+◌, ◌<◌, Bool, true, false, not, ◌&&◌, List, [], ◌∷◌, ◌++◌, length, Some, None, refl, sym, ap, ◌∙◌, arith, subst}
+use Rattle.std.proofs.Common.{◌≡◌, inl, inr, ℕ, ◌<◌, Bool, true, false, not, ◌&&◌, List, [], ◌∷◌, ◌++◌, length, Some, refl, sym, ap, ◌∙◌, arith, subst}
 use Rattle.std.specs.Prelude.{◌==◌, nat_le, if◌then◌else◌}
 use Rattle.std.specs.List.{slice_get}
 use Rattle.std.specs.Option.{option_map_or, is_some}
 use Rattle.std.proofs.lemmas.Grind.{common_steps}
 use Rattle.std.proofs.lemmas.Bool.Decides.{nat_tests}
 use Rattle.ccr_base.specs.declared.names.TaskId.{TaskId}
-use Rattle.ccr_base.specs.declared.names.Spot.{Spot}
 use Rattle.ccr_base.specs.declared.names.Spot.TheVariants.{Branch}
 use Rattle.ccr_base.specs.declared.messages.Msg.{Msg}
 use Rattle.ccr_base.specs.declared.policies.Policy.{Policy}
@@ -18,7 +17,7 @@ use Rattle.ccr_base.specs.Choice.{holds, fitting}
 use Rattle.ccr_base.specs.Names.{same_task, has_task}
 use Rattle.ccr_wiring.specs.declared.parts.Parts.{Parts}
 use Rattle.ccr_wiring.specs.declared.parts.Kind.TheVariants as kinds
-use Rattle.ccr_wiring.specs.Wirings.{Placement, placement, placements, branch_of, spots, spots_from, sites_from, awaited, actions_of, policy_of}
+use Rattle.ccr_wiring.specs.Wirings.{Placement, placement, placements, branch_of, spots, policy_of}
 use Rattle.ccr_wiring.specs.Groups.{may_have}
 use Rattle.ccr_wiring.specs.Limits.{policy_is_outside}
 use Rattle.ccr_wiring.specs.Valid.{HasGroups}
@@ -36,9 +35,9 @@ use Rattle.ccr_model.specs.Fates.{state_of}
 use Rattle.ccr_model.specs.Legal.{IsLegal}
 use Rattle.ccr_model.proofs.Allowing.{OneName-legal}
 use Rattle.ccr_base.proofs.Booleans.{no_both, or_left}
-use Rattle.ccr_model.proofs.Quiet.{fire_none, branch_among}
+use Rattle.ccr_model.proofs.QuietAllowsNone.{fire_none, branch_among}
 use Rattle.ccr_base.proofs.Options.{none_or}
-use Rattle.ccr_model.proofs.Members.{Among, Among-right}
+use Rattle.ccr_model.proofs.Members.{Among}
 use Rattle.ccr_model.proofs.CanFire.{some_fire_at}
 use Rattle.ccr_model.proofs.TasksLeft.{of_without, out_left}
 use Rattle.ccr_model.proofs.SameNames.{same_task-self}
@@ -53,7 +52,7 @@ use Rattle.ccr_service.specs.Expansion.{request_port, expansion}
 use Rattle.ccr_service.specs.Served.{is_torn_down}
 use Rattle.ccr_service.specs.Services.{IsService}
 use Rattle.ccr_service.specs.Stillness.{IsStill}
-use Rattle.ccr_service.proofs.Still.{AtEnd}
+use Rattle.ccr_service.proofs.QuietIsStill.{AtEnd}
 use Rattle.ccr_service.proofs.Shape.{PlacementFacts-placement, TakesIt, TakesIt-op}
 
 ended-append : (h es : List Event) → ended (h ++ es) ≡ ended h ++ ended es

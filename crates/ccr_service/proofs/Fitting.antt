@@ -1,5 +1,5 @@
 -- The expansion of each service is valid.
-use Rattle.std.proofs.Common.{◌≡◌, inl, inr, ℕ, suc, ◌+◌, ◌<◌, ◌≤◌, Bool, true, false, not, ◌||◌, List, [], ◌∷◌, ◌++◌, length, map, flat_map, cond, Option, Some, None, refl, sym, ap, ◌∙◌, arith, subst, append-nil}
+use Rattle.std.proofs.Common.{◌≡◌, inl, inr, ℕ, suc, ◌+◌, ◌<◌, ◌≤◌, Bool, true, false, not, ◌||◌, List, [], ◌∷◌, ◌++◌, length, map, flat_map, cond, Option, Some, None, refl, sym, ap, ◌∙◌, arith, subst, append-nil, append_assoc}
 use Rattle.std.specs.Prelude.{◌==◌, codes, if◌then◌else◌, nat_lt}
 use Rattle.std.specs.List.{list_any, list_all, slice_get}
 use Rattle.std.proofs.lemmas.List.{length-append, length-map}
@@ -38,7 +38,7 @@ use Rattle.ccr_service.specs.Expansion.{request_port, response_port, op_ports, p
 use Rattle.ccr_service.specs.Served.{asks_in_all}
 use Rattle.ccr_service.specs.Services.{IsService, is_service_op, is_service_expr, are_asked}
 use Rattle.ccr_service.proofs.Shape.{Role, Serves, serves_some, serves_by, handlers_length, some_bounded, op_actions, fault_actions}
-use Rattle.ccr_service.proofs.Naming.{names_apart, names_formed, all_pass, append_assoc}
+use Rattle.ccr_service.proofs.Naming.{names_apart, names_formed, all_pass}
 
 none_any : {X : Type 0} (p : X → Bool) (xs : List X) → ((x : X) → Among x xs → p x ≡ false) → list_any p xs ≡ false
 none_any p [] none = refl

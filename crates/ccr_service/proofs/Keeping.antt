@@ -25,9 +25,9 @@ use Rattle.ccr_wiretext.specs.Reading.{at_line}
 use Rattle.ccr_wiretext.proofs.ReadTellsSteps.{bind_ok as then_ok}
 use Rattle.ccr_base.proofs.Booleans.{both, no_both}
 use Rattle.ccr_base.proofs.Lists.{all_more}
-use Rattle.ccr_model.proofs.Members.{Among, Among-either, all_from}
-use Rattle.ccr_service.specs.declared.names.Named.{Named}
-use Rattle.ccr_service.specs.declared.names.Named.TheVariants as named
+use Rattle.ccr_model.proofs.Members.{Among, Among-either, all_from, Among-last}
+use Rattle.ccr_service.specs.declared.names.OpOrClient.{OpOrClient}
+use Rattle.ccr_service.specs.declared.names.OpOrClient.TheVariants as named
 use Rattle.ccr_service.specs.declared.parts.AskPart.{AskPart}
 use Rattle.ccr_service.specs.declared.parts.ClientPart.{ClientPart}
 use Rattle.ccr_service.specs.declared.parts.OpPart.{OpPart}
@@ -64,7 +64,7 @@ new_name_ok names words p e =
     let same : a.0 ≡ p = same_ok c.2 in
     subst (λ (q : List ℕ × Words). IsNewName names q.0) same (record { formed = unless_ok (is_service_name a.0.0) 14 b.0 b.1; new = none (meaning_of names a.0.0) (unless_ok _ 6 c.0 c.1) })
   where
-    none : (o : Option Named) → not (is_some o) ≡ true → o ≡ None
+    none : (o : Option OpOrClient) → not (is_some o) ≡ true → o ≡ None
     none None is = refl
     none (Some n) is = absurd (cc)
 
@@ -76,7 +76,7 @@ op_name_ok names words p e =
     let same : b.0 ≡ p.0 = ap (λ (q : ℕ × Words). q.0) (same_ok b.2) in
     (a.0.0, of_op (meaning_of names a.0.0) p.0 (or_code_ok _ 7 b.0 b.1 ∙ ap Some same))
   where
-    of_op : (o : Option Named) (k : ℕ) → option_and_then as_op o ≡ Some k → o ≡ Some (named.Op k)
+    of_op : (o : Option OpOrClient) (k : ℕ) → option_and_then as_op o ≡ Some k → o ≡ Some (named.Op k)
     of_op None k is = absurd (cc)
     of_op (Some named.Client) k is = absurd (cc)
     of_op (Some (named.Op n)) k is = let same : n ≡ k = cc in ap (λ i. Some (named.Op i)) same
@@ -136,7 +136,7 @@ expr_ok words p e =
 
 -- ---- names
 
-meaning_none : (names : Naming) (key n : List ℕ) (v : Named) → meaning_of (names ++ (key, v) ∷ []) n ≡ None → (meaning_of names n ≡ None) × (n ≡ key → ⊥)
+meaning_none : (names : Naming) (key n : List ℕ) (v : OpOrClient) → meaning_of (names ++ (key, v) ∷ []) n ≡ None → (meaning_of names n ≡ None) × (n ≡ key → ⊥)
 meaning_none [] key n v none = (refl, λ same. by_test (bytes_eq n key) refl none same)
   where
     by_test : (b : Bool) → bytes_eq n key ≡ b → (if b then Some v else None) ≡ None → n ≡ key → ⊥
@@ -148,7 +148,7 @@ meaning_none (entry ∷ names) key n v none = by_test (bytes_eq n entry.0) none 
     by_test true gone rest = absurd (cc)
     by_test false gone rest = rest gone
 
-meaning_some : (names : Naming) (key n : List ℕ) (v m : Named) → meaning_of (names ++ (key, v) ∷ []) n ≡ Some m → (meaning_of names n ≡ Some m) ⊎ (m ≡ v)
+meaning_some : (names : Naming) (key n : List ℕ) (v m : OpOrClient) → meaning_of (names ++ (key, v) ∷ []) n ≡ Some m → (meaning_of names n ≡ Some m) ⊎ (m ≡ v)
 meaning_some [] key n v m is = by_test (bytes_eq n key) is
   where
     by_test : (b : Bool) → (if b then Some v else None) ≡ Some m → (None ≡ Some m) ⊎ (m ≡ v)
@@ -183,14 +183,6 @@ all_front : {X : Type 0} (p : X → Bool) (xs : List X) (x : X) → list_all p (
 all_front p [] x all = (refl, (both (p x) true all).0)
 all_front p (y ∷ xs) x all = let parts = both (p y) (list_all p (xs ++ x ∷ [])) all in let rest = all_front p xs x parts.1 in (rw (parts.0, rest.0) refl, rest.1)
 
-one_more : {X : Type 0} (x y : X) (xs : List X) → Among y (xs ++ x ∷ []) → Among y xs ⊎ (y ≡ x)
-one_more x y xs is = of_side (Among-either y xs (x ∷ []) is)
-  where
-    of_side : Among y xs ⊎ Among y (x ∷ []) → Among y xs ⊎ (y ≡ x)
-    of_side (inl here) = inl here
-    of_side (inr (inl e)) = inr e
-    of_side (inr (inr none)) = absurd none
-
 apart_more : {X : Type 0} (xs : List X) (x : X) → Apart xs → (Among x xs → ⊥) → Apart (xs ++ x ∷ [])
 apart_more xs x apart_so new = apart_append xs (x ∷ []) apart_so ((λ gone. absurd gone), tt) crossed
   where
@@ -220,15 +212,15 @@ kept_op rule ops cs names asks part kept room name is_op =
       few_clients = kept.few_clients;
       counted = kept.counted;
       few_asks = kept.few_asks;
-      ops_formed = λ n is. of_side (λ m. is_service_name m ≡ true) n (one_more part.name n (op_names ops) (subst (Among n) all is)) (kept.ops_formed n) name.formed;
+      ops_formed = λ n is. of_side (λ m. is_service_name m ≡ true) n (Among-last n part.name (op_names ops) (subst (Among n) all is)) (kept.ops_formed n) name.formed;
       clients_formed = kept.clients_formed;
       ops_apart = subst Apart (sym all) (apart_more (op_names ops) part.name kept.ops_apart new.0);
       clients_apart = kept.clients_apart;
-      crossed = λ n is there. of_side (λ m. Among m (client_names cs) → ⊥) n (one_more part.name n (op_names ops) (subst (Among n) all is)) (kept.crossed n) new.1 there;
+      crossed = λ n is there. of_side (λ m. Among m (client_names cs) → ⊥) n (Among-last n part.name (op_names ops) (subst (Among n) all is)) (kept.crossed n) new.1 there;
       inside_so = kept.inside_so;
       ops_so = all_more is_service_op ops part kept.ops_so is_op;
       asked = subst (λ k. list_all (λ (c : ClientPart). are_asked k c.asks) cs ≡ true) (sym long) (all_asked_more (length ops) cs kept.asked);
-      fresh = λ n none. let parts = meaning_none names part.name n (named.Op (length ops)) none in let old = kept.fresh n parts.0 in ((λ is. of_new n (one_more part.name n (op_names ops) (subst (Among n) all is)) old.0 parts.1), old.1);
+      fresh = λ n none. let parts = meaning_none names part.name n (named.Op (length ops)) none in let old = kept.fresh n parts.0 in ((λ is. of_new n (Among-last n part.name (op_names ops) (subst (Among n) all is)) old.0 parts.1), old.1);
       numbered = λ n k is. of_number k n (meaning_some names part.name n (named.Op (length ops)) (named.Op k) is) (kept.numbered n k) long;
     }
   where
@@ -258,14 +250,14 @@ kept_client rule ops cs names asks name kept room is_new =
       counted = omega (arith, before, more);
       few_asks = kept.few_asks;
       ops_formed = kept.ops_formed;
-      clients_formed = λ n is. of_side (λ m. is_service_name m ≡ true) n (one_more name n (client_names cs) (subst (Among n) all is)) (kept.clients_formed n) is_new.formed;
+      clients_formed = λ n is. of_side (λ m. is_service_name m ≡ true) n (Among-last n name (client_names cs) (subst (Among n) all is)) (kept.clients_formed n) is_new.formed;
       ops_apart = kept.ops_apart;
       clients_apart = subst Apart (sym all) (apart_more (client_names cs) name kept.clients_apart new.1);
-      crossed = λ n is there. of_side (λ m. Among m (op_names ops) → ⊥) n (one_more name n (client_names cs) (subst (Among n) all there)) (λ here op. kept.crossed n op here) new.0 is;
+      crossed = λ n is there. of_side (λ m. Among m (op_names ops) → ⊥) n (Among-last n name (client_names cs) (subst (Among n) all there)) (λ here op. kept.crossed n op here) new.0 is;
       inside_so = kept.inside_so;
       ops_so = kept.ops_so;
       asked = all_more (λ (c : ClientPart). are_asked (length ops) c.asks) cs part kept.asked refl;
-      fresh = λ n none. let parts = meaning_none names name n named.Client none in let old = kept.fresh n parts.0 in (old.0, (λ is. of_new n (one_more name n (client_names cs) (subst (Among n) all is)) old.1 parts.1));
+      fresh = λ n none. let parts = meaning_none names name n named.Client none in let old = kept.fresh n parts.0 in (old.0, (λ is. of_new n (Among-last n name (client_names cs) (subst (Among n) all is)) old.1 parts.1));
       numbered = λ n k is. of_number k n (meaning_some names name n named.Client (named.Op k) is) (kept.numbered n k);
     }
   where

@@ -1,5 +1,5 @@
 -- The names of an expansion: of the form of names, and none twice.
-use Rattle.std.proofs.Common.{◌≡◌, ◌⊎◌, inl, inr, ℕ, ◌+◌, ◌<◌, ◌≤◌, Bool, true, false, not, ◌&&◌, List, [], ◌∷◌, ◌++◌, length, map, flat_map, Option, Some, None, refl, sym, ap, ◌∙◌, arith, subst, append-nil}
+use Rattle.std.proofs.Common.{◌≡◌, ◌⊎◌, inl, inr, ℕ, ◌+◌, ◌<◌, ◌≤◌, Bool, true, false, not, ◌&&◌, List, [], ◌∷◌, ◌++◌, length, map, flat_map, Option, Some, None, refl, sym, ap, ◌∙◌, arith, subst, append-nil, append_assoc}
 use Rattle.std.specs.Prelude.{◌==◌, codes, if◌then◌else◌, nat_lt}
 use Rattle.std.specs.List.{list_any, list_all}
 use Rattle.std.specs.Str.{bytes_eq}
@@ -13,7 +13,7 @@ use Rattle.ccr_wiring.specs.declared.parts.BranchPart.{BranchPart}
 use Rattle.ccr_wiring.specs.declared.parts.HandlerPart.{HandlerPart}
 use Rattle.ccr_wiring.specs.Names.{branch_names, cause_names, handler_names, poster_names, declared_names, has_name, has_repeated, has_malformed, has_repeated_name, has_malformed_name}
 use Rattle.ccr_base.proofs.Booleans.{both, neither, either, no_both, or_left, or_right, refuted, same_number, not_true}
-use Rattle.ccr_model.proofs.Members.{Among, Among-left, Among-right, Among-either}
+use Rattle.ccr_model.proofs.Members.{Among, Among-left, Among-right, Among-either, Among-map}
 use Rattle.ccr_service.specs.declared.parts.ClientPart.{ClientPart}
 use Rattle.ccr_service.specs.declared.parts.OpPart.{OpPart}
 use Rattle.ccr_service.specs.declared.parts.ServiceParts.{ServiceParts}
@@ -135,11 +135,6 @@ spread_some make (x ∷ xs) n is = of_side (Among-either n (make x) (flat_map ma
     of_side (inl here) later = (x, inl refl, here)
     of_side (inr there) later = let it = later there in (it.0, inr it.1, it.2)
 
-mapped_among : {X : Type 0} (name : X → List ℕ) (xs : List X) (x : X) → Among x xs → Among (name x) (map name xs)
-mapped_among name [] x is = absurd is
-mapped_among name (y ∷ xs) x (inl e) = inl (ap name e)
-mapped_among name (y ∷ xs) x (inr more) = inr (mapped_among name xs x more)
-
 spread_apart : {X : Type 0} (name : X → List ℕ) (make : X → List (List ℕ)) (xs : List X) → KeepsBase name make xs → ((x : X) → Among x xs → Apart (make x)) → Apart (map name xs) → Apart (flat_map make xs)
 spread_apart name make [] keeps each apart = tt
 spread_apart name make (x ∷ xs) keeps each apart = apart_append (make x) (flat_map make xs) (each x (inl refl)) (spread_apart name make xs (λ y is. keeps y (inr is)) (λ y is. each y (inr is)) apart.1) crossed
@@ -148,7 +143,7 @@ spread_apart name make (x ∷ xs) keeps each apart = apart_append (make x) (flat
     crossed n here there =
         let it = spread_some make xs n there in
         let same : name x ≡ name it.0 = sym (keeps x (inl refl) n here) ∙ keeps it.0 (inr it.1) n it.2 in
-        apart.0 (subst (λ m. Among m (map name xs)) (sym same) (mapped_among name xs it.0 it.1))
+        apart.0 (subst (λ m. Among m (map name xs)) (sym same) (Among-map name xs it.0 it.1))
 
 -- all names have this rank; or at least this rank
 abbrev HasRank : ℕ → List (List ℕ) → Type 0
@@ -246,10 +241,6 @@ branches_are faults n (op ∷ ops) = of_map (op_branches faults n op op.below) (
     by_below None = refl
     by_below (Some bound) = refl
 
-pub append_assoc : {X : Type 0} (xs ys zs : List X) → (xs ++ ys) ++ zs ≡ xs ++ (ys ++ zs)
-append_assoc [] ys zs = refl
-append_assoc (x ∷ xs) ys zs = ap (λ rs. x ∷ rs) (append_assoc xs ys zs)
-
 nested : {X : Type 0} (a b c d e f g : List X) → (((((a ++ b) ++ c) ++ d) ++ e) ++ f) ++ g ≡ a ++ (b ++ (c ++ (d ++ (e ++ (f ++ g)))))
 nested a b c d e f g = append_assoc ((((a ++ b) ++ c) ++ d) ++ e) f g ∙ append_assoc (((a ++ b) ++ c) ++ d) e (f ++ g) ∙ append_assoc ((a ++ b) ++ c) d (e ++ (f ++ g)) ∙ append_assoc (a ++ b) c (d ++ (e ++ (f ++ g))) ∙ append_assoc a b (c ++ (d ++ (e ++ (f ++ g))))
 
@@ -306,10 +297,10 @@ all_pass p (y ∷ xs) x all (inl e) = ap p e ∙ (both (p y) (list_all p xs) all
 all_pass p (y ∷ xs) x all (inr more) = all_pass p xs x (both (p y) (list_all p xs) all).1 more
 
 plain_ops : (s : ServiceParts) → IsService s → ArePlain op_name s.ops
-plain_ops s is op among = plain_name op.name (all_pass is_service_name (service_names s) op.name is.formed (Among-left op.name (op_names s.ops) (client_names s.clients) (mapped_among op_name s.ops op among)))
+plain_ops s is op among = plain_name op.name (all_pass is_service_name (service_names s) op.name is.formed (Among-left op.name (op_names s.ops) (client_names s.clients) (Among-map op_name s.ops op among)))
 
 plain_clients : (s : ServiceParts) → IsService s → ArePlain client_name s.clients
-plain_clients s is c among = plain_name c.name (all_pass is_service_name (service_names s) c.name is.formed (Among-right c.name (op_names s.ops) (client_names s.clients) (mapped_among client_name s.clients c among)))
+plain_clients s is c among = plain_name c.name (all_pass is_service_name (service_names s) c.name is.formed (Among-right c.name (op_names s.ops) (client_names s.clients) (Among-map client_name s.clients c among)))
 
 abbrev second : List ℕ → ℕ
 second [] = 0
@@ -384,7 +375,7 @@ last_apart s is = apart_append (flat_map op_branch_names s.ops) (client_names s.
         let op = it.0 in
         let plain_n : IsPlain n = plain_name n (all_pass is_service_name (service_names s) n is.formed (Among-right n (op_names s.ops) (client_names s.clients) there)) in
         let same : op.name ≡ n = sym (keeps op it.1 n it.2) ∙ base_plain n plain_n in
-        parts_apart (op_names s.ops) (client_names s.clients) names n (subst (λ m. Among m (op_names s.ops)) same (mapped_among op_name s.ops op it.1)) there
+        parts_apart (op_names s.ops) (client_names s.clients) names n (subst (λ m. Among m (op_names s.ops)) same (Among-map op_name s.ops op it.1)) there
 
 last_above : (s : ServiceParts) → IsService s → IsAbove 7 (from_posters s)
 last_above s is n among = of_side (Among-either n (flat_map op_branch_names s.ops) (client_names s.clients) among)
@@ -522,10 +513,10 @@ pub names_formed : (s : ServiceParts) → IsService s → has_malformed_name (ex
 names_formed s is = ap has_malformed (declared_are s) ∙ none_malformed (codes "svc-q" ∷ from_ports s) all
   where
     fo : (op : OpPart) → Among op s.ops → is_service_name op.name ≡ true
-    fo op among = all_pass is_service_name (service_names s) op.name is.formed (Among-left op.name (op_names s.ops) (client_names s.clients) (mapped_among op_name s.ops op among))
+    fo op among = all_pass is_service_name (service_names s) op.name is.formed (Among-left op.name (op_names s.ops) (client_names s.clients) (Among-map op_name s.ops op among))
 
     fc : (c : ClientPart) → Among c s.clients → is_service_name c.name ≡ true
-    fc c among = all_pass is_service_name (service_names s) c.name is.formed (Among-right c.name (op_names s.ops) (client_names s.clients) (mapped_among client_name s.clients c among))
+    fc c among = all_pass is_service_name (service_names s) c.name is.formed (Among-right c.name (op_names s.ops) (client_names s.clients) (Among-map client_name s.clients c among))
 
     whole_name : (name : List ℕ) → is_service_name name ≡ true → is_name_of name ≡ true
     whole_name name ok = subst (λ n. is_name_of n ≡ true) (append-nil name) (long_name name [] ok (omega arith) refl)

@@ -26,7 +26,7 @@ use Rattle.ccr_model.specs.Legal.{IsAllowed, IsLegal}
 use Rattle.ccr_base.proofs.Booleans.{both, no_both, or_left, or_right, either}
 use Rattle.ccr_base.proofs.Options.{some_of}
 use Rattle.ccr_model.proofs.PostNames.{along, refused_not}
-use Rattle.ccr_model.proofs.Pushes.{yielded-push}
+use Rattle.ccr_model.proofs.OneMoreEvent.{yielded-push}
 use Rattle.ccr_model.proofs.AllowedFirings.{FiresSo-allowed}
 use Rattle.ccr_model.proofs.Roots.{of_firing, other_firing}
 use Rattle.ccr_service.specs.Stillness.{HasNoAwaits}

@@ -28,7 +28,7 @@ use Rattle.ccr_service.specs.declared.parts.ServiceParts.{ServiceParts}
 use Rattle.ccr_service.specs.Expansion.{fault_port, causes_from, expansion}
 use Rattle.ccr_service.specs.Replies.{is_past, reply, reply_by, fault, success}
 use Rattle.ccr_service.proofs.Shape.{Role, PlacementFacts, op_actions, fault_actions}
-use Rattle.ccr_service.proofs.Sent.{IsAsked, IsKnown, all_known}
+use Rattle.ccr_service.proofs.WhatExpansionsPost.{IsAsked, IsKnown, all_known}
 use Rattle.ccr_service.proofs.Takings.{Takes, all_take}
 
 -- ---- the request that a task took

@@ -22,8 +22,8 @@ use Rattle.ccr_wiretext.specs.Reading.{at_line}
 use Rattle.ccr_base.proofs.Booleans.{both, not_true, refuted}
 use Rattle.ccr_base.proofs.Texts.{same_word as keyed}
 use Rattle.ccr_wiretext.proofs.FieldsRead.{number_said, number_read, within_said, within_read, policy_said, policy_read}
-use Rattle.ccr_service.specs.declared.names.Named.{Named}
-use Rattle.ccr_service.specs.declared.names.Named.TheVariants as named
+use Rattle.ccr_service.specs.declared.names.OpOrClient.{OpOrClient}
+use Rattle.ccr_service.specs.declared.names.OpOrClient.TheVariants as named
 use Rattle.ccr_service.specs.declared.parts.AskPart.{AskPart}
 use Rattle.ccr_service.specs.declared.parts.ClientPart.{ClientPart}
 use Rattle.ccr_service.specs.declared.parts.OpPart.{OpPart}
@@ -53,7 +53,7 @@ new_said names words p e =
     let same : a.0 ≡ p = same_ok c.2 in
     subst (NewSaid names words) same (record { spelled = word_ok words a.0 a.1; new = record { formed = unless_ok (is_service_name a.0.0) 14 b.0 b.1; new = none (meaning_of names a.0.0) (unless_ok _ 6 c.0 c.1) } })
   where
-    none : (o : Option Named) → not (is_some o) ≡ true → o ≡ None
+    none : (o : Option OpOrClient) → not (is_some o) ≡ true → o ≡ None
     none None is = refl
     none (Some n) is = absurd (cc)
 
@@ -70,7 +70,7 @@ op_said names words p e =
     let same : (b.0, a.0.1) ≡ p = same_ok b.2 in
     subst (OpSaid names words) same (record { name = a.0.0; spelled = word_ok words a.0 a.1; refers = of_op (meaning_of names a.0.0) b.0 (or_code_ok _ 7 b.0 b.1) })
   where
-    of_op : (o : Option Named) (k : ℕ) → option_and_then as_op o ≡ Some k → o ≡ Some (named.Op k)
+    of_op : (o : Option OpOrClient) (k : ℕ) → option_and_then as_op o ≡ Some k → o ≡ Some (named.Op k)
     of_op None k is = absurd (cc)
     of_op (Some named.Client) k is = absurd (cc)
     of_op (Some (named.Op n)) k is = let same : n ≡ k = cc in ap (λ i. Some (named.Op i)) same

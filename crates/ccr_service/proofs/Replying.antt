@@ -24,7 +24,7 @@ use Rattle.ccr_base.proofs.Options.{some_of}
 use Rattle.ccr_model.proofs.Members.{Among, Among-either}
 use Rattle.ccr_model.proofs.PostNames.{refused_not, times, posted_once}
 use Rattle.ccr_model.proofs.LegalParts.{along_legal}
-use Rattle.ccr_model.proofs.Pushes.{posts-push, started-push}
+use Rattle.ccr_model.proofs.OneMoreEvent.{posts-push, started-push}
 use Rattle.ccr_model.proofs.SameNames.{same_message-self, same_task-is}
 use Rattle.ccr_model.proofs.Stable.{firing_named-append, play_of-append}
 use Rattle.ccr_model.proofs.Ending.{RunningFacts-running}
@@ -34,7 +34,7 @@ use Rattle.ccr_model.proofs.TaskPlaces.{ArePlaced-legal}
 use Rattle.ccr_service.specs.declared.parts.ServiceParts.{ServiceParts}
 use Rattle.ccr_service.specs.Expansion.{expansion}
 use Rattle.ccr_service.specs.Replies.{posted_by}
-use Rattle.ccr_service.proofs.Sent.{IsPost, IsPost-test}
+use Rattle.ccr_service.proofs.WhatExpansionsPost.{IsPost, IsPost-test}
 use Rattle.ccr_service.proofs.Plays.{TakesAsk-legal, play_is, one_post}
 
 -- who runs has fired

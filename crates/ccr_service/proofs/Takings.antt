@@ -1,5 +1,5 @@
 -- Each task of an expansion took one request.
-use Rattle.std.proofs.Common.{◌≡◌, ◌⊎◌, inl, inr, ℕ, Bool, true, false, not, List, [], ◌∷◌, ◌++◌, length, take, filter, Some, None, refl, sym, ap, ◌∙◌, arith, subst, append-nil}
+use Rattle.std.proofs.Common.{◌≡◌, ◌⊎◌, inl, inr, ℕ, Bool, true, false, not, List, [], ◌∷◌, ◌++◌, length, take, Some, None, refl, sym, ap, ◌∙◌, arith, subst, append-nil}
 use Rattle.std.specs.Prelude.{◌==◌, if◌then◌else◌, nat_le}
 use Rattle.std.proofs.lemmas.Bool.Decides.{nat_tests}
 use Rattle.ccr_base.specs.declared.names.TaskId.{TaskId}
@@ -21,7 +21,7 @@ use Rattle.ccr_model.specs.TaskData.{messages_of}
 use Rattle.ccr_model.specs.Legal.{IsAllowed, IsLegal}
 use Rattle.ccr_base.proofs.Booleans.{same_number}
 use Rattle.ccr_base.proofs.Options.{some_of}
-use Rattle.ccr_model.proofs.Members.{Among, Among-left}
+use Rattle.ccr_model.proofs.Members.{Among, Among-left, Among-filter}
 use Rattle.ccr_model.proofs.LegalParts.{along_legal}
 use Rattle.ccr_model.proofs.Stable.{messages_of-append}
 use Rattle.ccr_model.proofs.TakenOnce.{joined_some, FireFacts-allowed}
@@ -32,19 +32,10 @@ use Rattle.ccr_service.specs.declared.parts.ServiceParts.{ServiceParts}
 use Rattle.ccr_service.specs.Expansion.{request_port, expansion}
 use Rattle.ccr_service.proofs.NoAwaits.{no_site_fires}
 use Rattle.ccr_service.proofs.Shape.{PlacementFacts, PlacementFacts-placement, one_slot, awaits_none}
-use Rattle.ccr_service.proofs.Sent.{named_so}
+use Rattle.ccr_service.proofs.WhatExpansionsPost.{named_so}
 use Rattle.ccr_laws.proofs.OneFates.{posts-append}
 
 -- ---- over plain lists
-
-pub of_kept : {X : Type 0} (p : X → Bool) (xs : List X) (x : X) → Among x (filter p xs) → Among x xs × (p x ≡ true)
-of_kept p [] x is = absurd is
-of_kept p (y ∷ xs) x is = by_test (p y) refl is (of_kept p xs x)
-  where
-    by_test : (b : Bool) → p y ≡ b → Among x (if b then y ∷ filter p xs else filter p xs) → (Among x (filter p xs) → Among x xs × (p x ≡ true)) → Among x (y ∷ xs) × (p x ≡ true)
-    by_test true e (inl same) rest = (inl same, ap p same ∙ e)
-    by_test true e (inr more) rest = let it = rest more in (inr it.0, it.1)
-    by_test false e more rest = let it = rest more in (inr it.0, it.1)
 
 -- what a slot of one message takes
 record TakesOne (pred : Pred) (ms xs : List Msg) : Type 0 where
@@ -59,7 +50,7 @@ takes_one_of port pred ms xs is = by_list (fitting pred ms) refl is
     by_list : (fs : List Msg) → fitting pred ms ≡ fs → (if nat_le 1 (length fs) then Some (take 1 fs) else None) ≡ Some xs → TakesOne pred ms xs
     by_list [] e none = absurd (cc)
     by_list (m ∷ fs) e some =
-        let kept = of_kept (λ (x : Msg). holds pred x.value) ms m (subst (Among m) (sym e) (inl refl)) in
+        let kept = Among-filter (λ (x : Msg). holds pred x.value) ms m (subst (Among m) (sym e) (inl refl)) in
         let enough : nat_le 1 (length (m ∷ fs)) ≡ true = grind (arith, nat_tests) in
         let same : m ∷ [] ≡ xs = front (nat_le 1 (length (m ∷ fs))) enough some in
         record { message = m; all = sym same; among = kept.0; holds_so = kept.1 }
@@ -83,8 +74,8 @@ names_one h port pred names is =
     let one = takes_one_of port pred (held h port) parts.0 parts.2 in
     let nothing : parts.1 ≡ [] = let e : Some [] ≡ Some parts.1 = parts.3 in cc in
     let whole : got.0 ≡ one.message ∷ [] = sym parts.4 ∙ ap (λ ms. parts.0 ++ ms) nothing ∙ append-nil parts.0 ∙ one.all in
-    let posted_so = of_kept (λ (m : Msg). not (has_message (taken h) m.id)) (posted h port) one.message one.among in
-    let there = of_kept (λ (m : Msg). m.port == port) (posts h) one.message posted_so.0 in
+    let posted_so = Among-filter (λ (m : Msg). not (has_message (taken h) m.id)) (posted h port) one.message one.among in
+    let there = Among-filter (λ (m : Msg). m.port == port) (posts h) one.message posted_so.0 in
     record { message = one.message; named = same_names got.0 names got.2 ∙ ap names_of whole; among = there.0; port_so = same_number one.message.port port there.1; holds_so = one.holds_so }
 
 -- ---- what a task took

@@ -1,5 +1,5 @@
 -- The tables tell the answers of all requests.
-use Rattle.std.proofs.Common.{◌≡◌, ℕ, zero, suc, ◌+◌, ◌<◌, ◌≤◌, true, List, [], ◌∷◌, ◌++◌, length, drop, Option, Some, None, refl, sym, ap, ◌∙◌, arith, subst}
+use Rattle.std.proofs.Common.{◌≡◌, ℕ, zero, suc, ◌+◌, ◌<◌, ◌≤◌, true, List, [], ◌∷◌, ◌++◌, length, drop, Option, Some, None, refl, sym, ap, ◌∙◌, arith, subst, append_assoc}
 use Rattle.std.specs.Prelude.{option_map, nat_lt}
 use Rattle.std.specs.List.{slice_get}
 use Rattle.std.specs.Option.{option_map_or}
@@ -29,7 +29,7 @@ use Rattle.ccr_service.specs.Served.{asks_in_all}
 use Rattle.ccr_service.specs.Services.{IsService, are_asked}
 use Rattle.ccr_service.specs.Answered.{answer_of}
 use Rattle.ccr_service.specs.Telling.{name_of, Tells, told_by, told_from, told_asks, told_clients, first_post, answers_from, clients_answers, answers_of}
-use Rattle.ccr_service.proofs.Naming.{all_pass, append_assoc}
+use Rattle.ccr_service.proofs.Naming.{all_pass}
 use Rattle.ccr_service.proofs.Answering.{request_of, told_quickly_so}
 
 -- no client asks more than all do
@@ -47,18 +47,18 @@ tells_so h t tells faults r = ap (λ o. option_map_or (λ task. told_by faults (
     by_taker (Some u) = ap (λ b. told_by faults b (contains same_task t.drops u) (option_map (λ (m : Bor Msg). m.now) (get same_task t.posts u))) (tells.cuts u) ∙ ap (λ b. told_by faults (has_task (cut h) u) b (option_map (λ (m : Bor Msg). m.now) (get same_task t.posts u))) (tells.drops u) ∙ ap (told_by faults (has_task (cut h) u) (has_task (dropped h) u)) (tells.posts u)
 
 -- the operation of a request
-asked_op : (s : ServiceParts) → IsService s → (client place : ℕ) (part : ClientPart) (ask : AskPart) → slice_get s.clients client ≡ Some part → slice_get part.asks place ≡ Some ask → (op : OpPart) × (slice_get s.ops ask.op ≡ Some op)
-asked_op s is client place part ask is_client is_ask =
+asked_op : (s : ServiceParts) → IsService s → (client index : ℕ) (part : ClientPart) (ask : AskPart) → slice_get s.clients client ≡ Some part → slice_get part.asks index ≡ Some ask → (op : OpPart) × (slice_get s.ops ask.op ≡ Some op)
+asked_op s is client index part ask is_client is_ask =
     let all = all_pass (λ (c : ClientPart). are_asked (length s.ops) c.asks) s.clients part is.asked (Among-at s.clients client part is_client) in
-    let one = all_pass (λ (a : AskPart). nat_lt a.op (length s.ops)) part.asks ask all (Among-at part.asks place ask is_ask) in
+    let one = all_pass (λ (a : AskPart). nat_lt a.op (length s.ops)) part.asks ask all (Among-at part.asks index ask is_ask) in
     get-some s.ops ask.op (grind (arith, nat_tests, one))
 
-asks_so : (s : ServiceParts) (h : List Event) (t : Tables) (faults client k : ℕ) (asks : List AskPart) → ((j : ℕ) (ask : AskPart) → slice_get asks j ≡ Some ask → told_from t faults (record { client = client; place = k + j }) ≡ answer_of s h client (k + j) ask.op) → told_asks t faults client k asks ≡ answers_from s h client k asks
+asks_so : (s : ServiceParts) (h : List Event) (t : Tables) (faults client k : ℕ) (asks : List AskPart) → ((j : ℕ) (ask : AskPart) → slice_get asks j ≡ Some ask → told_from t faults (record { client = client; index = k + j }) ≡ answer_of s h client (k + j) ask.op) → told_asks t faults client k asks ≡ answers_from s h client k asks
 asks_so s h t faults client k [] each = refl
 asks_so s h t faults client k (ask ∷ asks) each =
     let e : k + 0 ≡ k = omega arith in
-    let here : told_from t faults (record { client = client; place = k }) ≡ answer_of s h client k ask.op = subst (λ i. told_from t faults (record { client = client; place = i }) ≡ answer_of s h client i ask.op) e (each 0 ask refl) in
-    let rest = asks_so s h t faults client (k + 1) asks (λ j a at. let f : k + suc j ≡ (k + 1) + j = omega arith in subst (λ i. told_from t faults (record { client = client; place = i }) ≡ answer_of s h client i a.op) f (each (suc j) a at)) in
+    let here : told_from t faults (record { client = client; index = k }) ≡ answer_of s h client k ask.op = subst (λ i. told_from t faults (record { client = client; index = i }) ≡ answer_of s h client i ask.op) e (each 0 ask refl) in
+    let rest = asks_so s h t faults client (k + 1) asks (λ j a at. let f : k + suc j ≡ (k + 1) + j = omega arith in subst (λ i. told_from t faults (record { client = client; index = i }) ≡ answer_of s h client i a.op) f (each (suc j) a at)) in
     ap (λ x. x ∷ told_asks t faults client (k + 1) asks) here ∙ ap (λ xs. answer_of s h client k ask.op ∷ xs) rest
 
 clients_so : (s : ServiceParts) → IsService s → (h : List Event) → IsLegal (expansion s) h → is_complete (expansion s) h ≡ true → IsQuiet (expansion s) h → (t : Tables) → Tells h t → (n : ℕ) (cs : List ClientPart) → ((j : ℕ) (c : ClientPart) → slice_get cs j ≡ Some c → slice_get s.clients (n + j) ≡ Some c) → told_clients t (length s.ops + length s.ops) n cs ≡ clients_answers s h n cs
@@ -70,26 +70,26 @@ clients_so s is h legal complete quiet t tells n (c ∷ cs) within =
     let rest = clients_so s is h legal complete quiet t tells (n + 1) cs (λ j x at. let f : n + suc j ≡ (n + 1) + j = omega arith in subst (λ i. slice_get s.clients i ≡ Some x) f (within (suc j) x at)) in
     ap (λ xs. xs ++ told_clients t (length s.ops + length s.ops) (n + 1) cs) here ∙ ap (λ xs. answers_from s h n 0 c.asks ++ xs) rest
   where
-    one : (j : ℕ) (ask : AskPart) → slice_get s.clients n ≡ Some c → slice_get c.asks j ≡ Some ask → told_from t (length s.ops + length s.ops + n) (record { client = n; place = 0 + j }) ≡ answer_of s h n (0 + j) ask.op
+    one : (j : ℕ) (ask : AskPart) → slice_get s.clients n ≡ Some c → slice_get c.asks j ≡ Some ask → told_from t (length s.ops + length s.ops + n) (record { client = n; index = 0 + j }) ≡ answer_of s h n (0 + j) ask.op
     one j ask is_client at =
         let f : j ≡ 0 + j = omega arith in
         let op = asked_op s is n j c ask is_client at in
         let its = request_of s is h legal complete quiet n j c ask op.0 is_client at op.1 in
-        subst (λ i. told_from t (length s.ops + length s.ops + n) (record { client = n; place = i }) ≡ answer_of s h n i ask.op) f (tells_so h t tells (fault_port s n) (record { client = n; place = j }) ∙ told_quickly_so s h n j ask op.0 its)
+        subst (λ i. told_from t (length s.ops + length s.ops + n) (record { client = n; index = i }) ≡ answer_of s h n i ask.op) f (tells_so h t tells (fault_port s n) (record { client = n; index = j }) ∙ told_quickly_so s h n j ask op.0 its)
 
 pub all_told : (s : ServiceParts) → IsService s → (h : List Event) → IsLegal (expansion s) h → is_complete (expansion s) h ≡ true → IsQuiet (expansion s) h → (t : Tables) → Tells h t → told_clients t (length s.ops + length s.ops) 0 s.clients ≡ answers_of s h
 all_told s is h legal complete quiet t tells = clients_so s is h legal complete quiet t tells 0 s.clients (λ j c at. let e : j ≡ 0 + j = omega arith in subst (λ i. slice_get s.clients i ≡ Some c) e at)
 
 -- ---- the loop over a client's requests
 
-told_drop : (t : Tables) (faults client : ℕ) (asks : List AskPart) (k place : ℕ) → k < length asks → told_asks t faults client place (drop k asks) ≡ told_from t faults (record { client = client; place = place }) ∷ told_asks t faults client (place + 1) (drop (k + 1) asks)
-told_drop t faults client asks k place lt = let e : k + 1 ≡ suc k = omega arith in rw e (from asks k lt)
+told_drop : (t : Tables) (faults client : ℕ) (asks : List AskPart) (k index : ℕ) → k < length asks → told_asks t faults client index (drop k asks) ≡ told_from t faults (record { client = client; index = index }) ∷ told_asks t faults client (index + 1) (drop (k + 1) asks)
+told_drop t faults client asks k index lt = let e : k + 1 ≡ suc k = omega arith in rw e (from asks k lt)
   where
-    from : (asks : List AskPart) (k : ℕ) → k < length asks → told_asks t faults client place (drop k asks) ≡ told_from t faults (record { client = client; place = place }) ∷ told_asks t faults client (place + 1) (drop (suc k) asks)
+    from : (asks : List AskPart) (k : ℕ) → k < length asks → told_asks t faults client index (drop k asks) ≡ told_from t faults (record { client = client; index = index }) ∷ told_asks t faults client (index + 1) (drop (suc k) asks)
     from [] k lt = absurd (omega (arith, lt))
     from (a ∷ asks) zero lt = refl
     from (a ∷ asks) (suc k) lt = from asks k (omega (arith, lt))
 
 -- one more answer
-pub told_next : (t : Tables) (faults client : ℕ) (asks : List AskPart) (k : ℕ) (front whole : List Answer) → k < length asks → front ++ told_asks t faults client k (drop k asks) ≡ whole → (front ++ told_from t faults (record { client = client; place = k }) ∷ []) ++ told_asks t faults client (k + 1) (drop (k + 1) asks) ≡ whole
-told_next t faults client asks k front whole lt all = append_assoc front (told_from t faults (record { client = client; place = k }) ∷ []) (told_asks t faults client (k + 1) (drop (k + 1) asks)) ∙ ap (λ xs. front ++ xs) (sym (told_drop t faults client asks k k lt)) ∙ all
+pub told_next : (t : Tables) (faults client : ℕ) (asks : List AskPart) (k : ℕ) (front whole : List Answer) → k < length asks → front ++ told_asks t faults client k (drop k asks) ≡ whole → (front ++ told_from t faults (record { client = client; index = k }) ∷ []) ++ told_asks t faults client (k + 1) (drop (k + 1) asks) ≡ whole
+told_next t faults client asks k front whole lt all = append_assoc front (told_from t faults (record { client = client; index = k }) ∷ []) (told_asks t faults client (k + 1) (drop (k + 1) asks)) ∙ ap (λ xs. front ++ xs) (sym (told_drop t faults client asks k k lt)) ∙ all

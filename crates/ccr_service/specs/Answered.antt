@@ -63,7 +63,9 @@ pub record HasNone (service : ServiceParts) (history : List Event) (client index
 -- only where a teardown operation has fired, and the task is dropped only where the policy is discard
 abbrev pub IsAnswer : ServiceParts → List Event → ℕ → ℕ → AskPart → OpPart → Answer → Type 0
 IsAnswer service history client index ask op (told.Success m) = HasResponse service history client index ask.op (success ask.op op client ask.value) Done m × (is_past op.below ask.value ≡ false)
-IsAnswer service history client index ask op (told.Fault m) = HasResponse service history client index ask.op (fault service client ask.value) (Failed (ask.value ∷ [])) m × (is_past op.below ask.value ≡ true)
+IsAnswer service history client index ask op (told.Fault m) =
+    HasResponse service history client index ask.op (fault service client ask.value) (Failed (ask.value ∷ [])) m
+    × (is_past op.below ask.value ≡ true)
 IsAnswer service history client index ask op told.Held = IsHeld history (Script client index) × (responses service history client index ask.op ≡ []) × (is_torn_down service history ≡ true)
 IsAnswer service history client index ask op told.Cut = HasNone service history client index ask.op (cut history) × (is_torn_down service history ≡ true)
 IsAnswer service history client index ask op told.Dropped = HasNone service history client index ask.op (dropped history) × ((most : ℕ) × (service.policy ≡ Discard most))
@@ -77,7 +79,11 @@ answer_by service client false false (m ∷ more) = if m.port == fault_port serv
 
 -- the answer that is told of the request
 abbrev pub answer_of : ServiceParts → List Event → ℕ → ℕ → ℕ → Answer
-answer_of service history client index op = option_map_or (λ task. answer_by service client (has_task (cut history) task) (has_task (dropped history) task) (responses_of service history client op task)) (taker history (Script client index)) told.Held
+answer_of service history client index op =
+    option_map_or
+    (λ task. answer_by service client (has_task (cut history) task) (has_task (dropped history) task) (responses_of service history client op task))
+    (taker history (Script client index))
+    told.Held
 
 -- the request was posted, and one answer is true of it and no other: the one that is told
 pub record HasOneAnswer (service : ServiceParts) (history : List Event) (client index : ℕ) (ask : AskPart) (op : OpPart) : Type 0 where

@@ -1,10 +1,11 @@
 -- What the lines of a service text declare so far, and what each form of a line says.
 use Rattle.std.specs.Prelude.{ℕ, ◌+◌, Bool, true, false, not, List, [], ◌∷◌, ◌++◌, length, Option, Some, None, Result, Ok, Err, if◌then◌else◌, codes}
 use Rattle.std.specs.Str.{bytes_eq}
+use Rattle.ccr_base.specs.Bounds.{most_asks, most_clients, most_ops, most_policy}
 use Rattle.ccr_base.specs.declared.policies.Policy.{Policy}
 use Rattle.ccr_base.specs.declared.policies.Policy.TheVariants as policies
 use Rattle.ccr_text.specs.Fields.{Words, ◌>>=◌, unless, limited, no_more, number, policy}
-use Rattle.ccr_service.specs.declared.names.Named.TheVariants as kinds
+use Rattle.ccr_service.specs.declared.names.OpOrClient.TheVariants as kinds
 use Rattle.ccr_service.specs.declared.parts.AskPart.{AskPart}
 use Rattle.ccr_service.specs.declared.parts.ClientPart.{ClientPart}
 use Rattle.ccr_service.specs.declared.parts.OpPart.{OpPart}
@@ -48,14 +49,14 @@ end_client draft part = record draft { parts = record draft.parts { clients = dr
 unfoldable pub policy_form : Drafted → Words → Result Policy ℕ
 policy_form draft words = do
   once ← unless (not draft.policied) 13
-  rule ← policy 1000 words
+  rule ← policy most_policy words
   done ← no_more rule.1
   Ok rule.0
 
 -- op NAME GROUP EXPR, and below N where it has a bound
 unfoldable pub op_form : Drafted → Words → Result OpPart ℕ
 op_form draft words = do
-  room ← limited 32 (length draft.parts.ops)
+  room ← limited most_ops (length draft.parts.ops)
   name ← new_name draft.names words
   kind ← group name.1
   value ← expr kind.1
@@ -66,7 +67,7 @@ op_form draft words = do
 -- client NAME
 unfoldable pub client_form : Drafted → Words → Result (List ℕ) ℕ
 client_form draft words = do
-  room ← limited 16 (length draft.parts.clients)
+  room ← limited most_clients (length draft.parts.clients)
   name ← new_name draft.names words
   done ← no_more name.1
   Ok name.0
@@ -74,7 +75,7 @@ client_form draft words = do
 -- ask OP N
 unfoldable pub ask_form : Drafted → Words → Result AskPart ℕ
 ask_form draft words = do
-  room ← limited 10000 draft.asks
+  room ← limited most_asks draft.asks
   op ← op_name draft.names words
   value ← number op.1
   done ← no_more value.1

@@ -1,6 +1,7 @@
 -- The wiring that a service stands for.
 use Rattle.std.specs.Prelude.{ℕ, ◌+◌, Bool, true, false, List, [], ◌∷◌, ◌++◌, length, map, Option, Some, None, codes, if◌then◌else◌}
 use Rattle.std.specs.List.{list_any}
+use Rattle.ccr_base.specs.Bounds.{most_task_posts}
 use Rattle.ccr_base.specs.declared.policies.Group.{Group}
 use Rattle.ccr_base.specs.declared.handlers.Action.{Action}
 use Rattle.ccr_base.specs.declared.handlers.Action.TheVariants.{Post, Fail}
@@ -103,7 +104,7 @@ posters_from number (client ∷ clients) = record { name = client.name; posts = 
 abbrev pub expansion : ServiceParts → Parts
 expansion service = record {
   version = 1;
-  budget = 10000;
+  budget = most_task_posts;
   queues = record { name = codes "svc-q"; policy = service.policy } ∷ [];
   ports = ports service;
   sets = [];

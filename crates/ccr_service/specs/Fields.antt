@@ -1,7 +1,8 @@
--- What may stand in one place of a service's line, and the code where something else stands there.
+-- What may stand in one field of a service's line, and the code where something else stands there.
 use Rattle.std.specs.Prelude.{ℕ, List, [], ◌∷◌, Option, Some, None, Result, Ok, Err, not, is_some, if◌then◌else◌, codes}
 use Rattle.std.specs.Option.{option_and_then}
 use Rattle.std.specs.Str.{bytes_eq}
+use Rattle.ccr_base.specs.Bounds.{most_arg}
 use Rattle.ccr_base.specs.declared.policies.Group.{Group}
 use Rattle.ccr_base.specs.declared.policies.Group.TheVariants as groups
 use Rattle.ccr_base.specs.declared.handlers.Expr.{Expr}
@@ -42,7 +43,7 @@ expr words = do
   name ← word words
   if bytes_eq name.0 (codes "sum") then Ok (exprs.Sum, name.1) else
       if bytes_eq name.0 (codes "count") then Ok (exprs.Count, name.1) else
-      if bytes_eq name.0 (codes "arg") then (number_within 0 65535 name.1 >>= λ place. Ok (exprs.Arg place.0, place.1)) else
+      if bytes_eq name.0 (codes "arg") then (number_within 0 most_arg name.1 >>= λ place. Ok (exprs.Arg place.0, place.1)) else
       (or_code (number_of name.0) 5 >>= λ number. Ok (exprs.Number (number ∷ []), name.1))
 
 -- nothing, or below N

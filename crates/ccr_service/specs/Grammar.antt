@@ -1,5 +1,6 @@
 -- What a service text says, apart from reading: which words declare what. No codes, and no order of looking.
 use Rattle.std.specs.Prelude.{◌≡◌, ◌⊎◌, ℕ, ◌<◌, true, false, List, [], ◌∷◌, ◌++◌, length, Option, Some, None, codes}
+use Rattle.ccr_base.specs.Bounds.{most_arg, most_asks, most_clients, most_ops}
 use Rattle.ccr_base.specs.declared.policies.Policy.{Policy}
 use Rattle.ccr_base.specs.declared.policies.Group.{Group}
 use Rattle.ccr_base.specs.declared.policies.Group.TheVariants as groups
@@ -12,7 +13,7 @@ use Rattle.ccr_text.specs.Words.{is_clean, words_of, IsSkipped}
 use Rattle.ccr_wiretext.specs.Grammar.{IsNumber, IsWithin, IsPolicy}
 use Rattle.ccr_wiretext.specs.declared.refused.ReadRefused.{ReadRefused}
 use Rattle.ccr_wiretext.specs.declared.refused.ReadRefused.TheVariants as refusals
-use Rattle.ccr_service.specs.declared.names.Named.TheVariants as named
+use Rattle.ccr_service.specs.declared.names.OpOrClient.TheVariants as named
 use Rattle.ccr_service.specs.declared.parts.AskPart.{AskPart}
 use Rattle.ccr_service.specs.declared.parts.ClientPart.{ClientPart}
 use Rattle.ccr_service.specs.declared.parts.OpPart.{OpPart}
@@ -37,7 +38,7 @@ IsGroup word _ = ⊥
 -- N, arg N, sum or count
 abbrev pub IsExpr : Words → Expr → Type 0
 IsExpr words (exprs.Number value) = (digits : List ℕ) × (n : ℕ) × (words ≡ digits ∷ []) × (value ≡ n ∷ []) × IsNumber digits n
-IsExpr words (exprs.Arg k) = (digits : List ℕ) × (words ≡ codes "arg" ∷ digits ∷ []) × IsWithin 0 65535 digits k
+IsExpr words (exprs.Arg k) = (digits : List ℕ) × (words ≡ codes "arg" ∷ digits ∷ []) × IsWithin 0 most_arg digits k
 IsExpr words exprs.Sum = words ≡ codes "sum" ∷ []
 IsExpr words exprs.Count = words ≡ codes "count" ∷ []
 IsExpr words (exprs.Part message index) = ⊥
@@ -53,7 +54,7 @@ pub record IsOp (draft : Drafted) (words : Words) (part : OpPart) : Type 0 where
   pub value : Words
   pub most : Words
   pub spelled : words ≡ codes "op" ∷ part.name ∷ kind ∷ (value ++ most)
-  pub room : length draft.parts.ops < 32
+  pub room : length draft.parts.ops < most_ops
   pub new : IsNew draft.names part.name
   pub group : IsGroup kind part.group
   pub expr : IsExpr value part.expr
@@ -64,7 +65,7 @@ pub record IsAsk (draft : Drafted) (words : Words) (ask : AskPart) : Type 0 wher
   pub name : List ℕ
   pub digits : List ℕ
   pub spelled : words ≡ codes "ask" ∷ name ∷ digits ∷ []
-  pub room : draft.asks < 10000
+  pub room : draft.asks < most_asks
   pub refers : meaning_of draft.names name ≡ Some (named.Op ask.op)
   pub value : IsNumber digits ask.value
 
@@ -78,7 +79,7 @@ pub record IsPolicyLine (draft : Drafted) (words : Words) (rule : Policy) : Type
 -- client NAME, at most 16 of them
 pub record IsClient (draft : Drafted) (words : Words) (name : List ℕ) : Type 0 where
   pub spelled : words ≡ codes "client" ∷ name ∷ []
-  pub room : length draft.parts.clients < 16
+  pub room : length draft.parts.clients < most_clients
   pub new : IsNew draft.names name
 
 -- what a line outside of blocks declares, and what one of a client's block does

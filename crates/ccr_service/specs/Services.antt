@@ -2,7 +2,7 @@
 use Rattle.std.specs.Prelude.{◌≡◌, ℕ, ◌<◌, ◌≤◌, Bool, true, false, not, ◌&&◌, nat_lt, List, [], ◌∷◌, ◌++◌, map, length}
 use Rattle.std.specs.List.{list_all}
 use Rattle.std.specs.Char.{is_ascii_alphabetic, is_ascii_alphanumeric}
-use Rattle.ccr_base.specs.Bounds.{most_asks, most_ops, most_posters}
+use Rattle.ccr_base.specs.Bounds.{most_asks, most_clients, most_ops, most_service_name_bytes}
 use Rattle.ccr_base.specs.declared.handlers.Expr.{Expr}
 use Rattle.ccr_wiring.specs.declared.parts.Kind.TheVariants as kinds
 use Rattle.ccr_wiring.specs.Groups.{may_have}
@@ -18,7 +18,7 @@ use Rattle.ccr_service.specs.Served.{asks_in_all}
 -- 1 to 12 letters and digits of ASCII, a letter first
 abbrev pub is_service_name : List ℕ → Bool
 is_service_name [] = false
-is_service_name (first ∷ others) = is_ascii_alphabetic first && nat_lt (length others) 12 && list_all is_ascii_alphanumeric others
+is_service_name (first ∷ others) = is_ascii_alphabetic first && nat_lt (length others) most_service_name_bytes && list_all is_ascii_alphanumeric others
 
 -- the names of operations and clients, which share one space
 abbrev pub op_names : List OpPart → List (List ℕ)
@@ -48,7 +48,7 @@ are_asked ops asks = list_all (λ (ask : AskPart). nat_lt ask.op ops) asks
 pub record IsService (service : ServiceParts) : Type 0 where
   pub some_ops : 0 < length service.ops
   pub few_ops : length service.ops ≤ most_ops
-  pub few_clients : length service.clients ≤ most_posters
+  pub few_clients : length service.clients ≤ most_clients
   pub few_asks : asks_in_all service.clients ≤ most_asks
   pub formed : list_all is_service_name (service_names service) ≡ true
   pub apart : has_repeated (service_names service) ≡ false

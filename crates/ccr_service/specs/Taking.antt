@@ -16,4 +16,6 @@ pub record IsLineTaken (so : So) (text : List ℕ) (new : So) (behind : List ℕ
 -- the text's first line is refused
 abbrev pub IsLineRefused : So → List ℕ → Stop → Type 0
 IsLineRefused so text stops.Memory = Unit {0}
-IsLineRefused so text (stops.Refused code) = (behind : List ℕ) × (cut text ≡ first_line text ∷ cut behind) × (after_clean so (is_clean (first_line text)) (words_of (first_line text)) ≡ Err (code_number code))
+IsLineRefused so text (stops.Refused code) =
+    (behind : List ℕ) × (cut text ≡ first_line text ∷ cut behind)
+    × (after_clean so (is_clean (first_line text)) (words_of (first_line text)) ≡ Err (code_number code))

@@ -22,10 +22,10 @@ use Rattle.ccr_service.specs.declared.tables.RequestId.{RequestId}
 use Rattle.ccr_service.specs.declared.tables.Tables.{Tables}
 use Rattle.ccr_service.specs.Answered.{answer_of}
 
--- of a client's requests, of which the first has this place
+-- of a client's requests, of which the first has this index
 abbrev pub answers_from : ServiceParts → List Event → ℕ → ℕ → List AskPart → List Answer
-answers_from service history client place [] = []
-answers_from service history client place (ask ∷ asks) = answer_of service history client place ask.op ∷ answers_from service history client (place + 1) asks
+answers_from service history client index [] = []
+answers_from service history client index (ask ∷ asks) = answer_of service history client index ask.op ∷ answers_from service history client (index + 1) asks
 
 -- of the clients, of which the first has this number
 abbrev pub clients_answers : ServiceParts → List Event → ℕ → List ClientPart → List Answer
@@ -42,11 +42,11 @@ first_post history task = find (λ (m : Msg). is_message_of task m.id) (posts hi
 
 -- whether two requests are the same
 abbrev pub same_request : RequestId → RequestId → Bool
-same_request r q = (r.client == q.client) && (r.place == q.place)
+same_request r q = (r.client == q.client) && (r.index == q.index)
 
 -- the name of its message
 abbrev pub name_of : RequestId → MsgId
-name_of r = Script r.client r.place
+name_of r = Script r.client r.index
 
 -- the message that was found, if any
 abbrev pub message_in : Option (Bor Msg) → Option Msg
@@ -55,6 +55,12 @@ message_in found = option_map (λ (m : Bor Msg). m.now) found
 -- the task took the requests of these names that nobody had taken
 abbrev pub AreTaken : List MsgId → TaskId → (RequestId → Option TaskId) → (RequestId → Option TaskId) → Type 0
 AreTaken names task old new = (request : RequestId) → new request ≡ option_or (old request) (if has_message names (name_of request) then Some task else None)
+
+-- the task took those of the names that stand before the rest: with the rest, it takes what it takes of all
+abbrev pub AreTakenBefore : List MsgId → List MsgId → TaskId → (RequestId → Option TaskId) → (RequestId → Option TaskId) → Type 0
+AreTakenBefore rest names task old new =
+    (request : RequestId) → option_or (new request) (if has_message rest (name_of request) then Some task else None)
+    ≡ option_or (old request) (if has_message names (name_of request) then Some task else None)
 
 -- the task posted the message first, unless another of it was known
 abbrev pub IsPosted : TaskId → Msg → (TaskId → Option (Bor Msg)) → (TaskId → Option (Bor Msg)) → Type 0
@@ -74,14 +80,19 @@ told_by faults false true post = told.Dropped
 told_by faults false false None = told.Held
 told_by faults false false (Some m) = if m.port == faults then told.Fault m else told.Success m
 
+-- what the tables tell of a request that this task took
+abbrev pub told_of : Tables → ℕ → TaskId → Answer
+told_of tables faults task =
+    told_by faults (contains same_task tables.cuts task) (contains same_task tables.drops task) (option_map (λ (m : Bor Msg). m.now) (get same_task tables.posts task))
+
 -- what the tables tell of the request
 abbrev pub told_from : Tables → ℕ → RequestId → Answer
-told_from tables faults request = option_map_or (λ task. told_by faults (contains same_task tables.cuts task) (contains same_task tables.drops task) (option_map (λ (m : Bor Msg). m.now) (get same_task tables.posts task))) (get same_request tables.takers request) told.Held
+told_from tables faults request = option_map_or (told_of tables faults) (get same_request tables.takers request) told.Held
 
--- the answers of a client's requests, from this place on
+-- the answers of a client's requests, from this index on
 abbrev pub told_asks : Tables → ℕ → ℕ → ℕ → List AskPart → List Answer
-told_asks tables faults client place [] = []
-told_asks tables faults client place (ask ∷ asks) = told_from tables faults (record { client = client; place = place }) ∷ told_asks tables faults client (place + 1) asks
+told_asks tables faults client index [] = []
+told_asks tables faults client index (ask ∷ asks) = told_from tables faults (record { client = client; index = index }) ∷ told_asks tables faults client (index + 1) asks
 
 -- the answers of the clients' requests, client by client from this number on
 abbrev pub told_clients : Tables → ℕ → ℕ → List ClientPart → List Answer

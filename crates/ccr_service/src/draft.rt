@@ -1,13 +1,13 @@
 //! What the lines so far declare.
 
-ghost use Rattle.std.specs.Prelude.{◌≡◌, ◌<◌, None, OnOk, IfOk, length, [], ◌∷◌, ◌++◌};
+ghost use Rattle.std.specs.Prelude.{◌≡◌, ◌<◌, None, OnOk, IfOk, length};
 ghost use Rattle.ccr_base.specs.Bounds.{most_asks, most_ops};
 ghost use Rattle.ccr_text.specs.Answers.{Gives, GivesBy, GivesState};
 ghost use Rattle.ccr_text.specs.Names.{meaning_of};
 ghost use Rattle.ccr_service.specs.Drafts.{nothing, with_policy, with_op, with_client, with_ask, end_client, policy_form, op_form, client_form, ask_form, outside_line, client_line, line_in};
 
 use crate::fields::{bound, expr, group, new_name, op_name};
-use crate::names::Named;
+use crate::names::OpOrClient;
 use crate::{AskPart, ClientPart, OpPart, ServiceParts};
 use ccr_base::{List, Name, OutOfMemory, Policy};
 use ccr_text::{Code, Cursor, Names, Stop, is_text};
@@ -26,16 +26,16 @@ const MAX_ASKS: u32 = 10000;
 /// The parts so far, whether a line gave the policy, the declared names, how many requests there are, and the client whose block
 /// is open.
 #[derive(Drop)]
-pub struct Draft {
+pub struct ServiceDraft {
     pub alloc: Global,
     pub parts: ServiceParts,
     pub policied: bool,
-    pub names: Names<Named>,
+    pub names: Names<OpOrClient>,
     pub asks: u32,
     pub block: Option<ClientPart>,
 }
 
-impl Model for Draft {
+impl Model for ServiceDraft {
     ghost use Rattle.ccr_service.specs.Drafts.{Drafted};
 
     ghost Value = { Drafted };
@@ -49,11 +49,11 @@ fn copy_of(alloc: Global, name: &[u8]) -> Result<Name, OutOfMemory>
     Ok(List::from_vec(Vec::from_slice(alloc, name)?))
 }
 
-impl Draft {
+impl ServiceDraft {
     pub fn new(alloc: Global) -> Self
         ensures { result ≡ nothing }
     {
-        Draft {
+        ServiceDraft {
             alloc,
             parts: ServiceParts {
                 policy: Policy::Unbounded,
@@ -80,7 +80,8 @@ impl Draft {
         ensures { OnOk result (self.new ≡ with_op self.old part) }
     {
         let number = self.parts.ops.len() as u32;
-        self.names.add(part.name.as_slice(), Named::Op(number))?;
+        self.names
+            .add(part.name.as_slice(), OpOrClient::Op(number))?;
         self.parts.ops.add(part)
     }
 
@@ -88,7 +89,7 @@ impl Draft {
         requires { meaning_of self.old.names name.now ≡ None }
         ensures { OnOk result (self.new ≡ with_client self.old name.now) }
     {
-        self.names.add(name, Named::Client)?;
+        self.names.add(name, OpOrClient::Client)?;
         let name = copy_of(self.alloc, name)?;
         let asks = List::new(self.alloc);
         self.block = Some(ClientPart { name, asks });

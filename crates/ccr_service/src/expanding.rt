@@ -1,6 +1,6 @@
 //! The wiring that a service stands for.
 
-ghost use Rattle.std.specs.Prelude.{◌≡◌, ◌+◌, ◌<◌, ◌≤◌, ◌^◌, ◌++◌, [], ◌∷◌, true, IfOk, OnOk, length, map, codes};
+ghost use Rattle.std.specs.Prelude.{◌≡◌, ◌+◌, ◌<◌, ◌≤◌, ◌^◌, ◌++◌, true, IfOk, OnOk, length, map, codes};
 ghost use Rattle.std.specs.List.{list_any};
 ghost use Rattle.ccr_base.specs.Bounds.{most_ops};
 ghost use Rattle.ccr_service.specs.declared.parts.ClientPart.{ClientPart};

@@ -1,4 +1,4 @@
-//! What may stand in one place of a service's line. Each function takes the words of its place, or tells the code of what stands there.
+//! What may stand in one field of a service's line. Each function takes the words of its field, or tells the code of what stands there.
 
 ghost use Rattle.std.specs.Prelude.{◌≡◌, None, IfOk};
 ghost use Rattle.std.specs.Char.{is_ascii_alphanumeric};
@@ -8,7 +8,7 @@ ghost use Rattle.ccr_text.specs.Names.{meaning_of};
 ghost use Rattle.ccr_service.specs.Fields.{new_name, op_name, group, expr, bound};
 ghost use Rattle.ccr_service.specs.Services.{is_service_name};
 
-use crate::names::Named;
+use crate::names::OpOrClient;
 use ccr_base::{Expr, Group, Value};
 use ccr_text::{Code, Cursor, Names, Stop, is_text, read_number};
 use ccr_wiring::MAX_ARG;
@@ -37,7 +37,7 @@ fn is_service_name(word: &[u8]) -> bool
 
 /// A name that is declared here.
 #[tactic(auto, unfolding(crate::specs::Fields::new_name))]
-pub fn new_name<'a>(words: &mut Cursor<'a>, names: &Names<Named>) -> Result<&'a [u8], Stop>
+pub fn new_name<'a>(words: &mut Cursor<'a>, names: &Names<OpOrClient>) -> Result<&'a [u8], Stop>
     ensures name { LeavesBy (λ name. name.now) words.new result (new_name names.now words.old) }
     ensures new { IfOk result (λ name. meaning_of names.now name.now ≡ None) }
 {
@@ -53,12 +53,12 @@ pub fn new_name<'a>(words: &mut Cursor<'a>, names: &Names<Named>) -> Result<&'a 
 
 /// The name of an operation.
 #[tactic(auto, unfolding(crate::specs::Fields::op_name))]
-pub fn op_name(words: &mut Cursor<'_>, names: &Names<Named>) -> Result<u32, Stop>
+pub fn op_name(words: &mut Cursor<'_>, names: &Names<OpOrClient>) -> Result<u32, Stop>
     ensures { Leaves words.new result (op_name names.now words.old) }
 {
     let name = words.word()?;
     match names.get(name) {
-        Some(Named::Op(number)) => Ok(number),
+        Some(OpOrClient::Op(number)) => Ok(number),
         _ => Err(Stop::Refused(Code::Reference)),
     }
 }

@@ -2,7 +2,7 @@
 
 /// What a name stands for: the operation of this number, or a client.
 #[derive(Clone, Copy, PartialEq, Eq)]
-pub enum Named {
+pub enum OpOrClient {
     Op(u32),
     Client,
 }

@@ -7,10 +7,9 @@ ghost use Rattle.ccr_text.specs.Fields.{seen};
 ghost use Rattle.ccr_wiretext.specs.Answers.{IsReading};
 ghost use Rattle.ccr_service.specs.Grammar.{IsText, IsNoText};
 ghost use Rattle.ccr_service.specs.Reading.{is_version, after_all, after_clean, at_end, reading_text};
-ghost use Rattle.ccr_service.specs.Services.{IsService};
 ghost use Rattle.ccr_service.specs.Taking.{IsLineRefused, IsLineTaken};
 
-use crate::draft::Draft;
+use crate::draft::ServiceDraft;
 use crate::{Service, ServiceParts};
 use ccr_text::{Code, Cursor, Stop, is_comment, is_text, take_line};
 use ccr_wiretext::ReadRefused;
@@ -19,12 +18,12 @@ use std::marker::Model;
 
 /// What is declared so far: nothing before the line that gives the version.
 #[derive(Drop)]
-struct Reader {
+struct ServiceReader {
     alloc: Global,
-    draft: Option<Draft>,
+    draft: Option<ServiceDraft>,
 }
 
-impl Model for Reader {
+impl Model for ServiceReader {
     ghost use Rattle.ccr_service.specs.Reading.{So};
 
     ghost Value = { So };
@@ -42,11 +41,11 @@ fn is_version(words: &[&[u8]]) -> bool
     }
 }
 
-impl Reader {
+impl ServiceReader {
     fn new(alloc: Global) -> Self
         ensures { result ≡ None }
     {
-        Reader { alloc, draft: None }
+        ServiceReader { alloc, draft: None }
     }
 
     #[tactic(auto, unfolding(crate::specs::Reading::after_all, crate::specs::Reading::after_words))]
@@ -65,7 +64,7 @@ impl Reader {
                 if !is_version(words) {
                     return Err(Stop::Refused(Code::Version));
                 }
-                self.draft = Some(Draft::new(self.alloc));
+                self.draft = Some(ServiceDraft::new(self.alloc));
                 Ok(())
             }
         }
@@ -97,11 +96,11 @@ impl Reader {
     fn end(self) -> Result<ServiceParts, Stop>
         ensures { Gives result (at_end self) }
     {
-        let Reader { alloc: _, draft } = self;
+        let ServiceReader { alloc: _, draft } = self;
         let Some(draft) = draft else {
             return Err(Stop::Refused(Code::Version));
         };
-        let Draft {
+        let ServiceDraft {
             alloc: _,
             parts,
             policied: _,
@@ -124,7 +123,7 @@ fn read_text(alloc: Global, text: &[u8]) -> Result<ServiceParts, ReadRefused>
     requires { length text.now ≤ most_wiring_bytes }
     ensures { IsReading result (reading_text text.now) }
 {
-    let mut reader = Reader::new(alloc);
+    let mut reader = ServiceReader::new(alloc);
     let mut words = Vec::new(alloc);
     let mut rest = text;
     let mut last: u32 = 0;

@@ -17,11 +17,11 @@ use ccr_model::Event;
 use indexmap::{IndexMap, IndexSet};
 use std::alloc::Global;
 
-/// A request: the client that asks, and the place of the ask among its asks.
+/// A request: the client that asks, and the index of the ask among its asks.
 #[derive(Clone, Copy, PartialEq, Eq, Hash)]
 pub(crate) struct RequestId {
     pub(crate) client: ActorNo,
-    pub(crate) place: u32,
+    pub(crate) index: u32,
 }
 
 /// Who took a request, who was cut or dropped, and what a task posted first.
@@ -59,7 +59,7 @@ fn add_taken(
         if let MsgId::Script { actor, place } = *name {
             let request = RequestId {
                 client: actor,
-                place,
+                index: place,
             };
             add_taker(table, request, task)?;
         }

@@ -28,7 +28,7 @@ fn add_client(
     for (index, _) in asks.iter().enumerate() {
         let request = RequestId {
             client,
-            place: index as u32,
+            index: index as u32,
         };
         answers.push(tell(alloc, tables, faults, request)?)?;
     }

@@ -12,7 +12,9 @@ use Rattle.std.specs.Option.{option_map_or}
 use Rattle.ccr_wiring.specs.declared.parts.Parts.{Parts}
 use Rattle.ccr_turns.specs.Histories.{Given, history_stamps, keeps}
 use Rattle.ccr_turns.specs.Logs.{at_place, told}
-use Rattle.ccr_turns.specs.Lists.{Rises, Each, total}
+use Rattle.ccr_turns.specs.Lists.{Rises, total}
+use Rattle.ccr_base.specs.Lists.{Each}
+use Rattle.ccr_base.proofs.Lists.{each_all}
 use Rattle.ccr_turns.specs.Locks.{IsLeft, Agrees, full_log, keep_of, log_of, number_of, sifted_of, starts}
 use Rattle.ccr_turns.specs.declared.kept.Keep.{Keep}
 use Rattle.ccr_turns.specs.declared.kept.Keep.TheVariants.{Every}
@@ -40,7 +42,7 @@ use Rattle.ccr_runs.specs.declared.entries.Entry.{Entry}
 use Rattle.ccr_runs.specs.Played.{entries_of, protocol, scene}
 use Rattle.ccr_runs.specs.EntryRuns.{never}
 use Rattle.ccr_space.specs.Spaces.{HasPlaces, HasSeat, IsPassOf, Pass, Space, actor_count, log, number, wiring_of}
-use Rattle.ccr_space.specs.Closes.{IsClosed, IsKeptOf, IsOfLocks, Kept}
+use Rattle.ccr_space.specs.Closes.{IsClosed, IsKeptOf, IsOfLocks, PlaceAndHistory}
 
 by_side : {C : Type 0} (p n : ℕ) → (p < n → C) → (n ≤ p → C) → C
 by_side {C = C} p n f g = side (cases_lt p n)
@@ -48,10 +50,6 @@ by_side {C = C} p n f g = side (cases_lt p n)
     side : (p < n) ⊎ (n ≤ p) → C
     side (inl l) = f l
     side (inr l) = g l
-
-pub each_from_all : {X : Type 0} (P : X → Type 0) (xs : List X) → All P xs → Each P xs
-each_from_all P [] all = tt
-each_from_all P (x ∷ xs) all = (all 0 x (omega arith), each_from_all P xs (λ k d l. all (suc k) d (omega arith)))
 
 pub read_slice : {X : Type 0} (xs : List X) (i : ℕ) (x : X) → get_elem? xs i ≡ some x → slice_get xs i ≡ Some x
 read_slice [] i x e = absurd (some-ne-none x (sym e))
@@ -139,7 +137,7 @@ module _ (wiring : Parts) where
 
     seated_at : (p : ℕ) → Each (λ (h : Held Deed). h.seat < n) (history_at p es)
     seated_at p = by_side p (length objects)
-        (λ l. let w = whole objects kept n p all l in subst (Each (λ (h : Held Deed). h.seat < n)) (sym (parts p w.left w.ended)) (each_from_all (λ (h : Held Deed). h.seat < n) w.left.1 w.is.seated))
+        (λ l. let w = whole objects kept n p all l in subst (Each (λ (h : Held Deed). h.seat < n)) (sym (parts p w.left w.ended)) (each_all (λ (h : Held Deed). h.seat < n) w.left.1 w.is.seated))
         (λ l. subst (Each (λ (h : Held Deed). h.seat < n)) (sym (no_history (length objects) p es few (omega arith))) tt)
 
     pub merged : IsMerged (protocol wiring never) n (scene wiring) es
@@ -155,7 +153,7 @@ module _ (wiring : Parts) where
           let from = stands wiring objects p w.start same w.began in
           agrees.same p w.start w.left w.began w.ended ∙ (λ i. told after_deed p l.number (sym from i) 0 (sym (parts p w.left w.ended) i)))
           (λ high.
-          none_logged (length objects) p l.logged (each_from_all (λ (m : LogEntry Deed Placed). m.place < length objects) l.logged agrees.inside) (omega arith)
+          none_logged (length objects) p l.logged (each_all (λ (m : LogEntry Deed Placed). m.place < length objects) l.logged agrees.inside) (omega arith)
           ∙ ap (told after_deed p l.number (scene wiring p).0 0) (sym (no_history (length objects) p es few (omega arith))));
     }
 
@@ -183,7 +181,7 @@ all_rising n (o ∷ os) [] all = absurd all
 all_rising n (o ∷ os) (k ∷ ks) all = All-cons (λ (left : PlaceObject × List (Held Deed)). Rises 0 (history_stamps left.1)) k ks all.0.rising (all_rising n os ks all.1)
 
 -- what locks kept that keep every entry is the whole histories
-pub is_whole : (space : Space) (seats : List (Seat PlaceObject Ask PlaceAnswer Deed Placed ghosts)) (kept : List Kept) (its : IsKeptOf space seats kept) → keep_of space.turns ≡ Every → its.whole ≡ kept
+pub is_whole : (space : Space) (seats : List (Seat PlaceObject Ask PlaceAnswer Deed Placed ghosts)) (kept : List PlaceAndHistory) (its : IsKeptOf space seats kept) → keep_of space.turns ≡ Every → its.whole ≡ kept
 is_whole space seats kept its every = sym (its.part ∙ (ap (λ (k : Keep). map (sifted_of (keeps k has_event)) its.whole) every ∙ sifts_nothing has_event its.whole))
 
 -- so the entries of the closed locks are those of a run
@@ -195,7 +193,7 @@ closed_by space passes seats acts entries stands passed these locks numbers told
     let objects = starts space.turns in
     let n = actor_count space in
     let long = zip_length (IsLeft placed after_deed IsGiven n) objects locks.kept locks.left in
-    let few = each_from_all (λ (e : Act Deed). e.place < length objects) acts (subst (λ k. All (λ (e : Act Deed). e.place < k) acts) (sym long) locks.inside) in
+    let few = each_all (λ (e : Act Deed). e.place < length objects) acts (subst (λ k. All (λ (e : Act Deed). e.place < k) acts) (sym long) locks.inside) in
     let whole_run = merged w objects locks.kept n acts stands.objects locks.left locks.parts few locks.sorted in
     let its : (i : ℕ) (seat : Seat PlaceObject Ask PlaceAnswer Deed Placed ghosts) → get_elem? seats i ≡ some seat → IsLog after_deed (scene w) (number_of seat) acts (log_of seat)
     = λ i seat at. log_is w objects locks.kept n acts stands.objects locks.left locks.parts few locks.sorted (full_log seat) (all_at (λ seat. Agrees placed after_deed objects locks.kept (full_log seat)) seats i seat locks.agrees at) in

@@ -1,5 +1,5 @@
 -- The passes before their first steps.
-use Rattle.std.proofs.Common.{◌≡◌, ℕ, zero, suc, ◌+◌, List, [], map, length, sym, refl, ap, ◌∙◌, subst, arith}
+use Rattle.std.proofs.Common.{◌≡◌, ℕ, zero, suc, ◌+◌, List, [], map, length, sym, refl, ap, ◌∙◌, subst}
 use Rattle.std.specs.List.{range_with_len}
 use Rattle.std.proofs.lemmas.List.{length-map}
 use Rattle.ccr_wiring.specs.declared.parts.Parts.{Parts}
@@ -7,8 +7,8 @@ use Rattle.ccr_turns.specs.declared.history.LogEntry.{LogEntry}
 use Rattle.ccr_object.specs.declared.deed.Deed.{Deed}
 use Rattle.ccr_object.specs.declared.object.Placed.{Placed}
 use Rattle.ccr_actor.specs.Acting.{Acting, started}
-use Rattle.ccr_actor.proofs.Followed.{follows_started}
-use Rattle.ccr_space.specs.Spaces.{IsGoing, heard_in}
+use Rattle.ccr_actor.proofs.ActorsFollowTheirSteps.{follows_started}
+use Rattle.ccr_space.specs.Spaces.{IsGoing}
 
 fresh : (wiring : Parts) (k : ℕ) → IsGoing wiring k [] (started wiring k)
 fresh wiring k = record { steps = []; follows = follows_started wiring k; replies = refl; long = refl }

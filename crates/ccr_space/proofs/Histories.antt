@@ -16,7 +16,8 @@ use Rattle.ccr_turns.specs.Histories.{history_stamps, keeps, sifted}
 use Rattle.ccr_turns.specs.Locks.{sifted_of}
 use Rattle.ccr_turns.specs.declared.kept.Keep.{Keep}
 use Rattle.ccr_turns.specs.declared.kept.Keep.TheVariants.{Every, Seen}
-use Rattle.ccr_turns.specs.Lists.{Each, Rises}
+use Rattle.ccr_turns.specs.Lists.{Rises}
+use Rattle.ccr_base.specs.Lists.{Each}
 use Rattle.ccr_turns.specs.declared.history.Held.{Held}
 use Rattle.ccr_runs.specs.declared.acts.Act.{Act}
 use Rattle.ccr_runs.specs.Merges.{tag, tagged}
@@ -25,7 +26,7 @@ use Rattle.ccr_runs.proofs.InOrder.{shown_in_order}
 use Rattle.ccr_runs.specs.declared.entries.Entry.{Entry}
 use Rattle.ccr_runs.specs.Played.{entries_of, place_at}
 use Rattle.ccr_runs.specs.Visible.{shown, visible}
-use Rattle.ccr_space.specs.Closes.{Kept}
+use Rattle.ccr_space.specs.Closes.{PlaceAndHistory}
 use Rattle.ccr_space.specs.Shows.{act_shown, acts_shown, note_shown}
 
 -- the entry of an act shows what its note shows
@@ -109,12 +110,12 @@ module _ (keep : Keep) where
       by true again = ap (λ l. tag place h ∷ l) again
       by false again = again
 
-  all_sifted : (place : ℕ) (whole : List Kept) → tagged place (map (sifted_of sees) whole) ≡ flat_map kept_one (tagged place whole)
+  all_sifted : (place : ℕ) (whole : List PlaceAndHistory) → tagged place (map (sifted_of sees) whole) ≡ flat_map kept_one (tagged place whole)
   all_sifted place [] = refl
   all_sifted place (left ∷ whole) =
       (λ i. tagged_sifted place left.1 i ++ all_sifted (suc place) whole i) ∙ sym (flat_map-append kept_one (map (tag place) left.1) (tagged (suc place) whole))
 
-  merged_sifted : (whole : List Kept) → merged (map (sifted_of sees) whole) ≡ flat_map kept_one (merged whole)
+  merged_sifted : (whole : List PlaceAndHistory) → merged (map (sifted_of sees) whole) ≡ flat_map kept_one (merged whole)
   merged_sifted whole =
       ap (in_order (λ (act : Act Deed). act.stamp)) (all_sifted 0 whole)
       ∙ sym (shown_in_order (λ (act : Act Deed). act.stamp) (λ (act : Act Deed). act.stamp) kept_one one_stamped (tagged 0 whole))
@@ -128,7 +129,7 @@ module _ (keep : Keep) where
       by false is again = again ∙ sym (ap (λ l. l ++ acts_shown acts) (shows_nothing keep act is))
 
   -- so what is kept shows what the whole histories show
-  pub history_is : (wiring : Parts) (whole : List Kept) → acts_shown (merged (map (sifted_of sees) whole)) ≡ visible (entries_of wiring (merged whole))
+  pub history_is : (wiring : Parts) (whole : List PlaceAndHistory) → acts_shown (merged (map (sifted_of sees) whole)) ≡ visible (entries_of wiring (merged whole))
   history_is wiring whole = ap acts_shown (merged_sifted whole) ∙ (kept_show (merged whole) ∙ visible_acts wiring (merged whole))
 
   rises_from : (a b : ℕ) (stamps : List ℕ) → a ≤ b → Rises b stamps → Rises a stamps

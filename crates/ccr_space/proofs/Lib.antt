@@ -2,6 +2,6 @@ mod Stepping
 mod Closing
 mod Dealing
 mod Resting
-mod Through
-mod Longer
+mod RestedActorsAreThrough
+mod LogsGrow
 mod Histories

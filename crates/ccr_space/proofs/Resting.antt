@@ -10,7 +10,7 @@ use Rattle.ccr_wiring.specs.declared.parts.Parts.{Parts}
 use Rattle.ccr_turns.proofs.Rows.{range-more}
 use Rattle.ccr_actor.specs.Acting.{Acting, is_at_rest}
 use Rattle.ccr_actor.specs.Actors.{next}
-use Rattle.ccr_actor.proofs.Followed.{follows_rest}
+use Rattle.ccr_actor.proofs.ActorsFollowTheirSteps.{follows_rest}
 use Rattle.ccr_turns.specs.declared.history.LogEntry.{LogEntry}
 use Rattle.ccr_object.specs.declared.deed.Deed.{Deed}
 use Rattle.ccr_object.specs.declared.object.Placed.{Placed}

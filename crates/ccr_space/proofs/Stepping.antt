@@ -1,5 +1,5 @@
 -- A step of a pass.
-use Rattle.std.proofs.Common.{Bool, true, false, ◌≡◌, ℕ, ◌+◌, max, List, [], ◌∷◌, ◌++◌, map, sym, refl, ap, ◌∙◌, subst, Option, Some, None, Ok}
+use Rattle.std.proofs.Common.{Bool, true, false, ◌≡◌, ℕ, List, [], ◌∷◌, ◌++◌, sym, refl, ap, ◌∙◌, subst, Option, Some, None}
 use Rattle.std.specs.Option.{is_some, option_map}
 use Rattle.std.proofs.lemmas.List.{map-append}
 use Rattle.ccr_wiring.specs.declared.parts.Parts.{Parts}
@@ -17,10 +17,10 @@ use Rattle.ccr_object.specs.declared.deed.PlaceAnswer.TheVariants.{Replied, Unme
 use Rattle.ccr_object.specs.declared.deed.Deed.{Deed}
 use Rattle.ccr_object.specs.declared.object.Placed.{Placed}
 use Rattle.ccr_object.specs.Objects.{IsGiven, is_due, note_of, reply_of, answered, noted, answer_at}
-use Rattle.ccr_actor.specs.Acting.{Acting, at_state, next as next_of, sent, IsAfter}
-use Rattle.ccr_actor.specs.Actors.{next, state_after as state_of}
-use Rattle.ccr_actor.specs.Nets.{Step, replies_of}
-use Rattle.ccr_actor.proofs.Followed.{follows_long, follows_next, follows_reply}
+use Rattle.ccr_actor.specs.Acting.{Acting, next as next_of, sent}
+use Rattle.ccr_actor.specs.Actors.{next}
+use Rattle.ccr_actor.specs.Nets.{Step}
+use Rattle.ccr_actor.proofs.ActorsFollowTheirSteps.{follows_long, follows_next, follows_reply}
 use Rattle.ccr_runs.specs.Played.{Heard, heard, numbered, number_at, protocol}
 use Rattle.ccr_runs.specs.EntryRuns.{never}
 use Rattle.ccr_space.specs.declared.space.step.Step.{Step as Came}

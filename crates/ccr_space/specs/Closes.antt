@@ -1,6 +1,7 @@
 -- What the closed locks tell.
-use Rattle.std.specs.Prelude.{◌≡◌, ◌⊎◌, ℕ, ◌+◌, ◌<◌, ◌^◌, ◌==◌, true, All, List, [], length, map, None, Some, slice_get}
+use Rattle.std.specs.Prelude.{◌≡◌, ◌⊎◌, ℕ, ◌<◌, ◌^◌, ◌==◌, true, All, List, [], length, map, None, Some, slice_get}
 use Rattle.std.specs.List.{AllZip, list_any}
+use Rattle.ccr_wiring.specs.Actors.{actor_count as count_of_actors}
 use Rattle.ccr_wiring.specs.declared.parts.Parts.{Parts}
 use Rattle.ccr_claim.specs.declared.asks.Ask.{Ask}
 use Rattle.ccr_object.specs.declared.deed.PlaceAnswer.{PlaceAnswer}
@@ -33,21 +34,21 @@ abbrev pub IsPlayed : Parts → ℕ → List (Act Deed) → Type 0
 IsPlayed wiring count acts = IsRunFrom (protocol wiring never) count (scene wiring) (cast (protocol wiring never)) acts
 
 -- what a closed lock kept: its object and its history
-abbrev pub Kept : Type 0
-Kept = PlaceObject × List (Held Deed)
+abbrev pub PlaceAndHistory : Type 0
+PlaceAndHistory = PlaceObject × List (Held Deed)
 
 -- the entries that all of it makes in one list, by their stamps
-abbrev pub told : Parts → List Kept → List Entry
+abbrev pub told : Parts → List PlaceAndHistory → List Entry
 told wiring kept = entries_of wiring (merged kept)
 
 -- the acts are the histories of the closed locks in one list, and the log of each seat is its part of them
 pub record IsOfLocks (space : Space) (seats : List (Seat PlaceObject Ask PlaceAnswer Deed Placed ghosts)) (acts : List (Act Deed)) : Type 0 where
   -- at each place, by its number
-  pub kept : List Kept
+  pub kept : List PlaceAndHistory
   -- each object is the one that its history leaves from its start, the stamps of the history rise, and each note was given
   pub left : AllZip (IsLeft placed after_deed IsGiven (actor_count space)) (starts space.turns) kept
   -- the part of each place is that lock's history, and nothing stands elsewhere
-  pub parts : (place : ℕ) (left : Kept) → slice_get kept place ≡ Some left → history_at place acts ≡ left.1
+  pub parts : (place : ℕ) (left : PlaceAndHistory) → slice_get kept place ≡ Some left → history_at place acts ≡ left.1
   pub inside : All (λ (act : Act Deed). act.place < length kept) acts
   -- they stand by their stamps, and where stamps are equal by their places
   pub sorted : Climbs 0 (act_stamps acts)
@@ -56,11 +57,11 @@ pub record IsOfLocks (space : Space) (seats : List (Seat PlaceObject Ask PlaceAn
   pub agrees : All (λ seat. Agrees placed after_deed (starts space.turns) kept (full_log seat)) seats
 
 -- what was kept is a part of the whole histories of the locks: of each the entries that are kept in memory
-pub record IsKeptOf (space : Space) (seats : List (Seat PlaceObject Ask PlaceAnswer Deed Placed ghosts)) (kept : List Kept) : Type 0 where
-  pub whole : List Kept
+pub record IsKeptOf (space : Space) (seats : List (Seat PlaceObject Ask PlaceAnswer Deed Placed ghosts)) (kept : List PlaceAndHistory) : Type 0 where
+  pub whole : List PlaceAndHistory
   pub part : kept ≡ map (sifted_of (keeps (keep_of space.turns) has_event)) whole
   pub few : length whole < 2 ^ 32
-  pub rising : All (λ (left : Kept). Rises 0 (history_stamps left.1)) whole
+  pub rising : All (λ (left : PlaceAndHistory). Rises 0 (history_stamps left.1)) whole
   pub locks : IsOfLocks space seats (merged whole)
 
 -- the entries are those of a run, in which each place's part is its lock's history, and each pass's part is its log, once and in order
@@ -122,6 +123,6 @@ IsAtEnd wiring entries short actor = (list_any (λ n. n == actor) short ≡ true
 pub record IsOfRunToRest (wiring : Parts) (workers : ℕ) (history : List Event) (short : List ℕ) : Type 0 where
   pub entries : List Entry
   pub run : IsRunAfter wiring workers never [] entries
-  pub rest : (actor : ℕ) → actor < length wiring.posters + workers → IsAtEnd wiring entries short actor
-  pub threads : IsBroughtToRest wiring (length wiring.posters + workers) entries short
+  pub rest : (actor : ℕ) → actor < count_of_actors wiring workers → IsAtEnd wiring entries short actor
+  pub threads : IsBroughtToRest wiring (count_of_actors wiring workers) entries short
   pub shown : history ≡ visible entries

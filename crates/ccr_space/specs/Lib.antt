@@ -1,3 +1,4 @@
 pub mod Spaces
 pub mod Closes
 pub mod Shows
+pub mod Pauses

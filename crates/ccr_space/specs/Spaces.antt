@@ -1,5 +1,5 @@
 -- The locks of all places of a wiring, the passes of its actors through them, and what the closed locks tell.
-use Rattle.std.specs.Prelude.{◌≡◌, ◌⊎◌, ℕ, ◌+◌, ◌<◌, ◌≤◌, ◌==◌, ◌&&◌, Bool, true, false, List, [], ◌∷◌, ◌++◌, length, map, filter, None, Ok, slice_get, Some}
+use Rattle.std.specs.Prelude.{◌≡◌, ◌⊎◌, ℕ, ◌≤◌, ◌==◌, ◌&&◌, Bool, true, false, List, [], ◌∷◌, ◌++◌, length, map, filter, Ok, slice_get, Some}
 use Rattle.std.specs.Option.{is_some}
 use Rattle.std.specs.Borrow.{Bor}
 use Rattle.std.specs.List.{list_any, range_with_len}
@@ -108,7 +108,10 @@ is_short pass = pass.actor.state.is_short
 
 -- one entry more, with a note or without one: what the object there notes of the ask, at the value that it had
 abbrev pub IsMore : Bool → Pass → Pass → Type 0
-IsMore noted old new = (log_entry : LogEntry Deed Placed) × ((log new ≡ log old ++ log_entry ∷ []) × (is_some log_entry.note.note ≡ noted) × (log_entry.note.note ≡ note_of log_entry.before log_entry.note.ask.value))
+IsMore noted old new =
+    (log_entry : LogEntry Deed Placed) × ((log new ≡ log old ++ log_entry ∷ [])
+    × (is_some log_entry.note.note ≡ noted)
+    × (log_entry.note.note ≡ note_of log_entry.before log_entry.note.ask.value))
 
 -- so many entries more, or the last number of 64 bits where there are more
 abbrev pub IsLonger : Pass → Pass → ℕ → Type 0

@@ -4,5 +4,6 @@
 mod space;
 
 pub use space::{
-    Closed, Left, Pass, PassOf, Seen, Space, SpaceOf, Step, closed_threads, shown_threads,
+    Closed, Pass, PassOf, PlaceAndHistory, Shown, Space, SpaceOf, Step, closed_threads,
+    shown_threads,
 };

@@ -13,8 +13,8 @@ mod showing;
 mod step;
 mod threads;
 
-pub use close::{Closed, Left};
-pub use showing::Seen;
+pub use close::{Closed, PlaceAndHistory};
+pub use showing::Shown;
 pub use step::Step;
 pub use threads::{closed_threads, shown_threads};
 

@@ -27,7 +27,7 @@ use Rattle.ccr_model.specs.Fates.{state_of}
 use Rattle.ccr_model.specs.Order.{first, admit_first}
 use Rattle.ccr_model.specs.Legal.{IsAllowed, IsLegal, IsQuiet}
 use Rattle.ccr_model.proofs.Allowing.{first_allowed, OneName-legal}
-use Rattle.ccr_model.proofs.Alone.{ever_admitted_fired}
+use Rattle.ccr_model.proofs.ExclusiveRootsAreAlone.{ever_admitted_fired}
 use Rattle.ccr_base.proofs.Booleans.{no_both}
 use Rattle.ccr_model.proofs.Members.{Among}
 use Rattle.ccr_base.proofs.Options.{no_head, none_map}
@@ -41,7 +41,7 @@ use Rattle.ccr_laws.proofs.States.{is_in}
 use Rattle.ccr_model.proofs.TaskPlaces.{QueuedFacts-queued, placement_by}
 use Rattle.ccr_steady.specs.Flow.{IsSteady}
 use Rattle.ccr_steady.proofs.Calm.{none_cut, none_dropped, are_over, at_branches}
-use Rattle.ccr_model.proofs.Quiet.{NoneFirst, NoneFirst-first, start_none, admit_none, found_fired, find_among}
+use Rattle.ccr_model.proofs.QuietAllowsNone.{NoneFirst, NoneFirst-first, start_none, admit_none, found_fired, find_among}
 use Rattle.ccr_model.proofs.TaskLists.{no_members}
 
 -- nothing comes first after a quiet history

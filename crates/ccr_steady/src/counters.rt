@@ -1,13 +1,13 @@
 //! Counters that find the flow.
 
-ghost use Rattle.std.specs.Prelude.{◌≡◌, ◌<◌, ◌≤◌, ℕ, ◌+◌, ◌*◌, nat_lt, true, false, length, map, slice_index, slice_set, IfOk, IfSome, None};
-ghost use Rattle.std.specs.List.{list_any, slice_get};
+ghost use Rattle.std.specs.Prelude.{◌≡◌, ◌<◌, ◌≤◌, ℕ, ◌+◌, ◌*◌, false, length, map, slice_index, slice_set, IfOk, IfSome, None};
+ghost use Rattle.std.specs.List.{list_any};
 ghost use Rattle.ccr_base.specs.Bounds.{most_script_posts};
 ghost use Rattle.ccr_wiring.specs.Limits.{posts_in_all};
 ghost use Rattle.ccr_wiring.specs.Placements.{placement_seen};
-ghost use Rattle.ccr_wiring.specs.Wirings.{Placement, placements};
+ghost use Rattle.ccr_wiring.specs.Wirings.{placements};
 ghost use Rattle.ccr_steady.specs.Flow.{at_port, each, sends, weigh, lines, scripts, slots_of, unsteady};
-ghost use Rattle.ccr_steady.specs.Counting.{is_short, AreStuck, IsReady, IsCounting, HasFlow};
+ghost use Rattle.ccr_steady.specs.Counting.{count_limit, most_firings, is_short, AreStuck, IsReady, IsCounting, HasFlow};
 ghost use Rattle.ccr_steady.specs.Agreement.{IsDear};
 
 use ccr_base::{Action, OutOfMemory, Pattern, PortNo, Slot};
@@ -16,7 +16,7 @@ use std::alloc::Global;
 
 /// Counts one post to the port.
 fn count_post(got: &mut [u64], port: PortNo)
-    requires { (index : ℕ) → index < length got.old → slice_index got.old index < 1000000 }
+    requires { (index : ℕ) → index < length got.old → slice_index got.old index < count_limit }
     ensures { (index : ℕ) → index < length got.old → slice_index got.new index ≡ slice_index got.old index + at_port index port }
 {
     let index = port as usize;
@@ -27,7 +27,7 @@ fn count_post(got: &mut [u64], port: PortNo)
 
 /// Counts the posts of a script.
 fn count_script(got: &mut [u64], posts: &[ScriptPost])
-    requires { (index : ℕ) → index < length got.old → slice_index got.old index + length posts.now < 1000000 }
+    requires { (index : ℕ) → index < length got.old → slice_index got.old index + length posts.now < count_limit }
     ensures { (index : ℕ) → index < length got.old → slice_index got.new index ≡ slice_index got.old index + lines (at_port index) posts.now }
 {
     for post in posts {
@@ -48,7 +48,7 @@ fn count_scripts(got: &mut [u64], posters: &[PosterPart])
 
 /// Counts the posts of a firing, and says how many they are.
 fn count_firing(got: &mut [u64], actions: &[Action]) -> u64
-    requires { (index : ℕ) → index < length got.old → slice_index got.old index + length actions.now < 1000000 }
+    requires { (index : ℕ) → index < length got.old → slice_index got.old index + length actions.now < count_limit }
     ensures got { (index : ℕ) → index < length got.old → slice_index got.new index ≡ slice_index got.old index + weigh (at_port index) (sends actions.now) }
     ensures posts { result ≡ weigh each (sends actions.now) }
     ensures few { result ≤ length actions.now }
@@ -116,9 +116,9 @@ impl Counters {
     /// Lets the branch fire once more.
     pub fn fire(&mut self, branch: usize, actions: &[Action])
         requires branch { branch < length self.old.fired.items }
-        requires few { slice_index self.old.fired.items branch < 20000 }
-        requires got { (index : ℕ) → index < length self.old.got.items → slice_index self.old.got.items index + length actions.now < 1000000 }
-        requires spent { self.old.spent + length actions.now < 1000000 }
+        requires few { slice_index self.old.fired.items branch < most_firings }
+        requires got { (index : ℕ) → index < length self.old.got.items → slice_index self.old.got.items index + length actions.now < count_limit }
+        requires spent { self.old.spent + length actions.now < count_limit }
         ensures fired { self.new.fired.items ≡ slice_set self.old.fired.items branch (slice_index self.old.fired.items branch + 1) }
         ensures ports { length self.new.got.items ≡ length self.old.got.items }
         ensures got { (index : ℕ) → index < length self.old.got.items → slice_index self.new.got.items index ≡ slice_index self.old.got.items index + weigh (at_port index) (sends actions.now) }

@@ -16,7 +16,7 @@ use Rattle.ccr_model.specs.declared.history.EndHow.TheVariants as ends
 use Rattle.ccr_model.specs.Posts.{posts, posted, taken}
 use Rattle.ccr_model.specs.Firings.{firings, fired_at, cut, put, dropped}
 use Rattle.ccr_model.specs.Counts.{is_done, is_failed, is_shed, is_yield}
-use Rattle.ccr_model.proofs.Pushes.{posts-push, firings-push, cut-push, put-push, dropped-push}
+use Rattle.ccr_model.proofs.OneMoreEvent.{posts-push, firings-push, cut-push, put-push, dropped-push}
 use Rattle.ccr_model.proofs.TakenOnce.{taken-push}
 use Rattle.ccr_ledger.specs.declared.cards.Card.{Card}
 use Rattle.ccr_ledger.specs.Books.{Books, card_at, more, number}

@@ -17,7 +17,7 @@ use Rattle.ccr_ledger.specs.Books.{Books}
 use Rattle.ccr_ledger.specs.Kept.{Keeps, KeepsTasks}
 use Rattle.ccr_telling.specs.Tallies.{AreFew, AreTallies, HasRoom, IsCounting, Tallies, after_event, all_indices, is_on}
 use Rattle.ccr_telling.proofs.Counting.{tallies-event}
-use Rattle.ccr_telling.proofs.Few.{few-event, room_for}
+use Rattle.ccr_telling.proofs.NumbersGrowByOne.{few-event, room_for}
 use Rattle.ccr_telling.proofs.CountsTold.{few_cuts, few_taken, on_queue, same_filter}
 
 -- other tables that tell the same queue of each task that was put or dropped

@@ -1,8 +1,8 @@
 pub mod Numbers
 pub mod Indices
-pub mod Few
+pub mod NumbersGrowByOne
 pub mod Counting
-pub mod Along
+pub mod NumbersAlongEvents
 pub mod Spots
 pub mod CountsTold
 pub mod Heard

@@ -4,11 +4,7 @@ use Rattle.ccr_wiring.specs.declared.parts.Parts.{Parts}
 use Rattle.ccr_model.specs.declared.history.Event.{Event}
 use Rattle.ccr_model.specs.declared.rule.Rule.{Rule}
 use Rattle.ccr_model.specs.Rules.{refusal}
-use Rattle.ccr_model.specs.Legal.{first_refusal}
-
--- what is refused first, where this is said of the first event, and this of those behind it
-abbrev first_or : Option Rule → ℕ → Option (ℕ × Rule) → Option (ℕ × Rule)
-first_or answer index later = elim answer [ None ↦ later | Some rule ↦ Some (index, rule) ]
+use Rattle.ccr_model.specs.Legal.{first_or, first_refusal}
 
 -- what is refused first, where this is said of the last event, and nothing before it is refused
 abbrev pub at_last : ℕ → Option Rule → Option (ℕ × Rule)

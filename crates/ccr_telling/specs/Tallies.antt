@@ -1,6 +1,7 @@
 -- Numbers that grow event by event.
 use Rattle.std.specs.Prelude.{◌≡◌, ◌≤◌, ◌<◌, ◌-◌, ◌^◌, ℕ, ◌+◌, ◌*◌, ◌==◌, Bool, false, nat_lt, List, [], ◌∷◌, ◌++◌, length, filter, replicate, Option, Some, None, option_to_list, if◌then◌else◌}
 use Rattle.std.specs.Option.{option_map_or}
+use Rattle.ccr_base.specs.Bounds.{most_sites}
 use Rattle.ccr_base.specs.declared.names.TaskId.{TaskId}
 use Rattle.ccr_base.specs.declared.names.MsgId.{MsgId}
 use Rattle.ccr_base.specs.declared.names.Spot.{Spot}
@@ -52,7 +53,7 @@ all_indices = 4352
 -- the index of a spot; none for a site past the sixteenth
 abbrev pub index_of : Spot → Option ℕ
 index_of (Branch branch) = Some (branch * indices_each)
-index_of (Site branch site) = if nat_lt site 16 then Some (branch * indices_each + (site + 1)) else None
+index_of (Site branch site) = if nat_lt site most_sites then Some (branch * indices_each + (site + 1)) else None
 
 -- nothing was counted yet
 abbrev pub no_tallies : ℕ → ℕ → ℕ → Tallies
@@ -92,11 +93,20 @@ after_post port tallies = record tallies { posted = more port tallies.posted; po
 
 -- one firing more at the spot, with the messages that it took and the tasks that it cut
 abbrev pub after_fire : Spot → List MsgId → List TaskId → Tallies → Tallies
-after_fire spot messages cuts tallies = record tallies { fired = more_at (index_of spot) tallies.fired; taken = tallies.taken + length messages; firings = tallies.firings + 1; cut = tallies.cut + length cuts }
+after_fire spot messages cuts tallies = record tallies {
+  fired = more_at (index_of spot) tallies.fired;
+  taken = tallies.taken + length messages;
+  firings = tallies.firings + 1;
+  cut = tallies.cut + length cuts;
+}
 
 -- one task more at its queue, and one task more that its queue dropped, where it dropped one
 abbrev pub after_put : Books → TaskId → Option TaskId → Tallies → Tallies
-after_put books task dropped tallies = record tallies { put = more_for books task tallies.put; dropped = more_if_some books dropped tallies.dropped; drops = tallies.drops + length (option_to_list dropped) }
+after_put books task dropped tallies = record tallies {
+  put = more_for books task tallies.put;
+  dropped = more_if_some books dropped tallies.dropped;
+  drops = tallies.drops + length (option_to_list dropped);
+}
 
 -- one segment more that ended so
 abbrev pub after_end : EndHow → Tallies → Tallies

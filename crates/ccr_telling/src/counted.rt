@@ -13,7 +13,7 @@ ghost use Rattle.ccr_ledger.specs.Kept.{Keeps};
 ghost use Rattle.ccr_telling.specs.Tallies.{AreCountsBy, AreFew, AreTallies, IsCounting, index_of};
 ghost use Rattle.ccr_telling.specs.Totals.{totals_by};
 
-use crate::tally::{ALL_PLACES, Tally};
+use crate::tally::{ALL_INDICES, Tally};
 use ccr_base::{OutOfMemory, PortNo, Spot};
 use ccr_ledger::Ledger;
 use ccr_model::{Event, Totals};
@@ -107,7 +107,7 @@ impl Tally {
         let parts = wiring.parts();
         let ports = parts.ports.as_slice().len();
         let queues = parts.queues.as_slice().len();
-        let tally = tally_of(alloc, ledger, events, ports, ALL_PLACES, queues)?;
+        let tally = tally_of(alloc, ledger, events, ports, ALL_INDICES, queues)?;
         Ok(tally)
     }
 

@@ -1,10 +1,10 @@
 //! The serial order behind a history, to its end.
 
-ghost use Rattle.std.specs.Prelude.{◌≡◌, ◌≤◌, ◌^◌, IfOk, length};
+ghost use Rattle.std.specs.Prelude.{◌≡◌, ◌≤◌, IfOk, length};
 ghost use Rattle.ccr_base.specs.Bounds.{most_actors};
 ghost use Rattle.ccr_model.specs.Firings.{fired};
 ghost use Rattle.ccr_model.specs.Legal.{IsLegal};
-ghost use Rattle.ccr_model.specs.Order.{next_attempt};
+ghost use Rattle.ccr_model.specs.Order.{most_attempts, next_attempt};
 ghost use Rattle.ccr_telling.specs.Tallies.{IsCounting};
 ghost use Rattle.ccr_telling.specs.Telling.{HasTold, IsCountedToEnd, IsToldToEnd};
 
@@ -34,7 +34,7 @@ fn engine_behind<'w>(
     requires no_poster { length wiring.now.posters ≤ closer }
     requires low { closer ≤ most_actors }
     requires legal { IsLegal wiring.now first.now }
-    requires attempts { next_attempt closer (fired first.now) ≤ 2 ^ 31 }
+    requires attempts { next_attempt closer (fired first.now) ≤ most_attempts }
     ensures engine { IfOk result (λ both. both.0.value ≡ record { wiring = wiring.now; closer = closer; history = first.now }) }
     ensures tally { IfOk result (λ both. IsCounting wiring.now first.now both.1) }
 {
@@ -56,7 +56,7 @@ fn telling_behind<'w>(
     requires no_poster { length wiring.now.posters ≤ closer }
     requires low { closer ≤ most_actors }
     requires legal { IsLegal wiring.now first }
-    requires attempts { next_attempt closer (fired first) ≤ 2 ^ 31 }
+    requires attempts { next_attempt closer (fired first) ≤ most_attempts }
     ensures engine { IfOk result (λ both. both.0.value ≡ record { wiring = wiring.now; closer = closer; history = first }) }
     ensures told { IfOk result (λ both. HasTold both.1 wiring.now first) }
 {
@@ -75,7 +75,7 @@ fn counting_behind<'w>(
     requires no_poster { length wiring.now.posters ≤ closer }
     requires low { closer ≤ most_actors }
     requires legal { IsLegal wiring.now first }
-    requires attempts { next_attempt closer (fired first) ≤ 2 ^ 31 }
+    requires attempts { next_attempt closer (fired first) ≤ most_attempts }
     ensures engine { IfOk result (λ both. both.0.value ≡ record { wiring = wiring.now; closer = closer; history = first }) }
     ensures counting { IfOk result (λ both. IsCounting wiring.now first both.1.tally) }
 {
@@ -94,7 +94,7 @@ pub fn tell_to_end(
     requires no_poster { length wiring.now.posters ≤ closer }
     requires low { closer ≤ most_actors }
     requires legal { IsLegal wiring.now first }
-    requires attempts { next_attempt closer (fired first) ≤ 2 ^ 31 }
+    requires attempts { next_attempt closer (fired first) ≤ most_attempts }
     ensures { IfOk result (IsToldToEnd wiring.now closer first) }
 {
     let (mut engine, mut telling) = telling_behind(alloc, wiring, closer, first)?;
@@ -115,7 +115,7 @@ pub fn count_to_end(
     requires no_poster { length wiring.now.posters ≤ closer }
     requires low { closer ≤ most_actors }
     requires legal { IsLegal wiring.now first }
-    requires attempts { next_attempt closer (fired first) ≤ 2 ^ 31 }
+    requires attempts { next_attempt closer (fired first) ≤ most_attempts }
     ensures { IfOk result (IsCountedToEnd wiring.now closer first) }
 {
     let (mut engine, mut counting) = counting_behind(alloc, wiring, closer, first)?;

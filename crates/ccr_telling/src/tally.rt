@@ -5,7 +5,7 @@ ghost use Rattle.std.specs.Option.{option_map_or};
 ghost use Rattle.ccr_wiring.specs.declared.parts.Parts.{Parts};
 ghost use Rattle.ccr_model.specs.declared.history.Event.{Event as SomeEvent};
 ghost use Rattle.ccr_ledger.specs.Books.{more, number};
-ghost use Rattle.ccr_telling.specs.Tallies.{CountsNext, FitOneMore, HasRoom, WhereFireFits, after_end, after_event, after_fire, after_post, after_put, more_at, more_for, more_if_some, no_tallies, index_of};
+ghost use Rattle.ccr_telling.specs.Tallies.{CountsNext, FitOneMore, HasRoom, WhereFireFits, after_end, after_event, after_fire, after_post, after_put, more_at, more_for, no_tallies, index_of};
 
 use ccr_base::{MsgId, OutOfMemory, PortNo, Spot, TaskId};
 use ccr_laws::valid_histories_are_short;
@@ -14,10 +14,12 @@ use ccr_model::{EndHow, Event};
 use std::alloc::Global;
 use std::marker::Model;
 
+/// The sites of a branch, at most: one for each action of its handler.
+const MAX_SITES: u32 = 16;
 /// The indices of a branch: its own, and one for each site that it can have.
-const PLACES_EACH: usize = 17;
+const INDICES_EACH: usize = 17;
 /// As many as the branches of a wiring have, of which there are at most 256.
-pub(crate) const ALL_PLACES: usize = 4352;
+pub(crate) const ALL_INDICES: usize = 4352;
 
 /// What happened how often in a history.
 #[derive(Drop)]
@@ -68,10 +70,10 @@ fn index_of(spot: Spot) -> Option<usize>
     ensures { result ≡ index_of spot }
 {
     match spot {
-        Spot::Branch(branch) => Some(branch as usize * PLACES_EACH),
+        Spot::Branch(branch) => Some(branch as usize * INDICES_EACH),
         Spot::Site(branch, site) => {
-            if site < 16 {
-                Some(branch as usize * PLACES_EACH + (site as usize + 1))
+            if site < MAX_SITES {
+                Some(branch as usize * INDICES_EACH + (site as usize + 1))
             } else {
                 None
             }

@@ -9,14 +9,14 @@ use ccr_base::{List, OutOfMemory};
 use ccr_engine::Listener;
 use ccr_ledger::Ledger;
 use ccr_model::{Event, History};
-use ccr_trace::{Names, add_event, write_history};
+use ccr_trace::{WiringNames, add_event, write_history};
 use ccr_wiring::Wiring;
 use std::alloc::Global;
 
 /// The text of a history and its numbers, which go on with each event.
 #[derive(Drop)]
 pub struct Telling<'w> {
-    names: Names<'w>,
+    names: WiringNames<'w>,
     pub text: List<u8>,
     pub tally: Tally,
 }
@@ -32,7 +32,7 @@ impl<'w> Telling<'w> {
         requires { IsCounting wiring.now history.now tally }
         ensures { IfOk result (λ telling. HasTold telling wiring.now history.now) }
     {
-        let names = Names::new(alloc, wiring)?;
+        let names = WiringNames::new(alloc, wiring)?;
         let text = write_history(alloc, wiring, history)?;
         Ok(Telling { names, text, tally })
     }

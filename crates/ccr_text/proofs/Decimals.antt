@@ -1,6 +1,6 @@
 -- A number that is written is read again.
 use Rattle.std.proofs.Common.{◌≡◌, ℕ, ◌^◌, ◌<◌, true, false, List, length, Some, refl, arith}
-use Rattle.std.specs.Prelude.{◌&&◌, ◌==◌, nat_lt, decimal}
+use Rattle.std.specs.Prelude.{◌==◌, nat_lt, decimal}
 use Rattle.std.specs.List.{list_all}
 use Rattle.std.specs.Char.{is_ascii_digit}
 use Rattle.std.proofs.lemmas.Bool.Decides.{nat_tests}

@@ -1,5 +1,5 @@
--- What may stand in one place of a line, and the code where something else stands there.
--- A place is read from the words that are left; it gives a value and the words behind it, or a code.
+-- What may stand in one field of a line, and the code where something else stands there.
+-- A field is read from the words that are left; it gives a value and the words behind it, or a code.
 use Rattle.std.specs.Prelude.{ℕ, Bool, List, [], ◌∷◌, Option, Some, None, Result, Ok, Err, nat_lt, nat_le, ◌&&◌, map, if◌then◌else◌, codes}
 use Rattle.std.specs.Borrow.{Bor}
 use Rattle.std.specs.Str.{bytes_eq}

@@ -10,7 +10,7 @@ use crate::{Code, Stop};
 use ccr_base::Policy;
 use std::marker::Model;
 
-/// The words that are left: those behind so many that were taken. Each method takes the words of one place, or tells the
+/// The words that are left: those behind so many that were taken. Each method takes the words of one field, or tells the
 /// code of what stands there.
 #[derive(Drop)]
 pub struct Cursor<'a> {

@@ -1,7 +1,7 @@
 //! A line that is built from its end, with no memory.
 
 ghost use Rattle.std.specs.Prelude.{◌≡◌, ◌≤◌, ◌+◌, ◌∷◌, ◌++◌, [], length, decimal};
-ghost use Rattle.ccr_text.specs.Room.{Fits};
+ghost use Rattle.ccr_text.specs.Room.{Fits, most_index_digits, most_number_digits};
 
 use std::marker::Model;
 
@@ -17,12 +17,13 @@ pub struct LineBuffer {
 
 impl Model for LineBuffer {
     ghost use Rattle.std.specs.Prelude.{ℕ, List, drop, ◌≤◌};
+    ghost use Rattle.ccr_text.specs.Room.{line_room};
 
     ghost Value = { List ℕ };
 
     ghost view = { λ line. drop line.start line.bytes };
 
-    ghost invariant = { λ line. line.start ≤ 96 };
+    ghost invariant = { λ line. line.start ≤ line_room };
 }
 
 impl LineBuffer {
@@ -68,9 +69,9 @@ impl LineBuffer {
     /// Puts the number's digits in front, without leading zeros: at most 20.
     #[inline(always)]
     pub fn prepend_number(&mut self, number: u64)
-        requires { Fits 20 self.old }
+        requires { Fits most_number_digits self.old }
         ensures text { self.new ≡ decimal number ++ self.old }
-        ensures short { length self.new ≤ length self.old + 20 }
+        ensures short { length self.new ≤ length self.old + most_number_digits }
     {
         self.start = itoa::write_digits(number, &mut self.bytes, self.start);
     }
@@ -78,9 +79,9 @@ impl LineBuffer {
     /// The same for a number of 32 bits: at most 10 digits.
     #[inline(always)]
     pub fn prepend_index(&mut self, number: u32)
-        requires { Fits 10 self.old }
+        requires { Fits most_index_digits self.old }
         ensures text { self.new ≡ decimal number ++ self.old }
-        ensures short { length self.new ≤ length self.old + 10 }
+        ensures short { length self.new ≤ length self.old + most_index_digits }
     {
         self.start = itoa::write_digits(u64::from(number), &mut self.bytes, self.start);
     }

@@ -9,7 +9,7 @@ use ccr_base::{List, Name, OutOfMemory};
 use std::alloc::Global;
 
 /// How many bytes a name has at most.
-const MAX_NAME_BYTES: usize = 16;
+pub const MAX_NAME_BYTES: usize = 16;
 
 fn is_graphic_byte(byte: u8) -> bool
     ensures { result ≡ is_graphic byte }

@@ -1,6 +1,6 @@
 -- In a valid wiring no two ports share a name, nor two causes, nor two branches.
 use Rattle.std.proofs.Common.{◌≡◌, ℕ, ◌+◌, Bool, true, false, cond, List, [], ◌∷◌, ◌++◌, map, flat_map, length, refl, sym, ap, ◌∙◌, length-append, append_assoc, arith}
-use Rattle.std.specs.Prelude.{◌||◌, ◌&&◌, ◌==◌, not}
+use Rattle.std.specs.Prelude.{◌&&◌, ◌==◌, not}
 use Rattle.std.specs.List.{list_any}
 use Rattle.std.specs.Str.{bytes_eq}
 use Rattle.std.proofs.lemmas.Bool.Decides.{nat_tests}
@@ -27,6 +27,7 @@ use Rattle.ccr_trace.specs.Words.{branch_names, branch_names_of, cause_names}
 use Rattle.std.proofs.lemmas.Bool.{and_parts as both, or_parts as neither}
 use Rattle.ccr_base.proofs.Booleans.{not_refuted}
 use Rattle.ccr_base.proofs.Options.{none_cond as no_code}
+use Rattle.ccr_base.proofs.Lists.{none_of_both}
 
 -- the codes before that of a name that stands twice
 codes_before : (parts : Parts) → IsValid parts → (has_misgrouped parts ≡ false) × (has_repeated_name parts ≡ false)
@@ -49,9 +50,6 @@ none_left test xs ys e = (neither (list_any test xs) (list_any test ys) (sym (li
 none_right : (test : List ℕ → Bool) (xs ys : List (List ℕ)) → list_any test (xs ++ ys) ≡ false → list_any test ys ≡ false
 none_right test xs ys e = (neither (list_any test xs) (list_any test ys) (sym (list_any-append test xs ys) ∙ e)).1
 
-none_both : (test : List ℕ → Bool) (xs ys : List (List ℕ)) → list_any test xs ≡ false → list_any test ys ≡ false → list_any test (xs ++ ys) ≡ false
-none_both test xs ys e f = list_any-append test xs ys ∙ rw (e, f) refl
-
 lacks_left : (xs ys : List (List ℕ)) (name : List ℕ) → has_name (xs ++ ys) name ≡ false → has_name xs name ≡ false
 lacks_left xs ys name e = none_left (λ other. bytes_eq other name) xs ys e
 
@@ -59,7 +57,7 @@ lacks_right : (xs ys : List (List ℕ)) (name : List ℕ) → has_name (xs ++ ys
 lacks_right xs ys name e = none_right (λ other. bytes_eq other name) xs ys e
 
 lacks_both : (xs ys : List (List ℕ)) (name : List ℕ) → has_name xs name ≡ false → has_name ys name ≡ false → has_name (xs ++ ys) name ≡ false
-lacks_both xs ys name e f = none_both (λ other. bytes_eq other name) xs ys e f
+lacks_both xs ys name e f = none_of_both (λ other. bytes_eq other name) xs ys e f
 
 apart_right : (xs ys : List (List ℕ)) → has_repeated (xs ++ ys) ≡ false → has_repeated ys ≡ false
 apart_right [] ys e = e
@@ -113,8 +111,8 @@ apart_behind (x ∷ xs) more fewer lacks apart e =
     rw (lacks_both xs fewer x (lacks_left xs more x parts.0) (lacks x (lacks_right xs more x parts.0)), apart_behind xs more fewer lacks apart parts.1) refl
 
 -- an arbiter's names are its branches' names, or its own name before these
-abbrev Named : ArbiterPart → Type 0
-Named arbiter = (front : List (List ℕ)) × (arbiter_names arbiter ≡ front ++ branch_names_of arbiter)
+abbrev NamesItsBranches : ArbiterPart → Type 0
+NamesItsBranches arbiter = (front : List (List ℕ)) × (arbiter_names arbiter ≡ front ++ branch_names_of arbiter)
 
 one_named : (name : List ℕ) (branches : List BranchPart) → is_one_named name branches ≡ true → map (λ (part : BranchPart). part.name) branches ≡ name ∷ []
 one_named name [] e = absurd cc
@@ -130,7 +128,7 @@ named_by : (name : List ℕ) (branches : List BranchPart) (receive : Bool) → (
 named_by name branches true e = ([], sym (one_named name branches (not_refuted (is_one_named name branches) e)))
 named_by name branches false e = (name ∷ [], refl)
 
-named : (arbiter : ArbiterPart) → is_misgrouped arbiter ≡ false → Named arbiter
+named : (arbiter : ArbiterPart) → is_misgrouped arbiter ≡ false → NamesItsBranches arbiter
 named arbiter e = named_by arbiter.name arbiter.branches (is_receive arbiter.kind) (neither (has_strange_group arbiter) (is_receive arbiter.kind && not (is_one_named arbiter.name arbiter.branches)) e).1
 
 -- what no name of an arbiter or a branch passes, no branch's name passes
@@ -142,7 +140,7 @@ none_passes test (arbiter ∷ arbiters) grouped e =
     let whole : list_any test (arbiter_names arbiter ++ flat_map arbiter_names arbiters) ≡ false = ap (list_any test) (sym (flat_map-cons arbiter_names arbiter arbiters)) ∙ e in
     let here : list_any test (front.0 ++ branch_names_of arbiter) ≡ false = ap (list_any test) (sym front.1) ∙ none_left test (arbiter_names arbiter) (flat_map arbiter_names arbiters) whole in
     let later = none_passes test arbiters parts.1 (none_right test (arbiter_names arbiter) (flat_map arbiter_names arbiters) whole) in
-    ap (list_any test) (flat_map-cons branch_names_of arbiter arbiters) ∙ none_both test (branch_names_of arbiter) (flat_map branch_names_of arbiters) (none_right test front.0 (branch_names_of arbiter) here) later
+    ap (list_any test) (flat_map-cons branch_names_of arbiter arbiters) ∙ none_of_both test (branch_names_of arbiter) (flat_map branch_names_of arbiters) (none_right test front.0 (branch_names_of arbiter) here) later
 
 apart : (arbiters : List ArbiterPart) → list_any is_misgrouped arbiters ≡ false → has_repeated (flat_map arbiter_names arbiters) ≡ false → has_repeated (flat_map branch_names_of arbiters) ≡ false
 apart [] grouped e = refl

@@ -1,5 +1,5 @@
 -- A line that is spelled says the same again.
-use Rattle.std.proofs.Common.{◌≡◌, ℕ, suc, ◌^◌, ◌<◌, Bool, true, false, List, [], ◌∷◌, ◌++◌, length, map, Option, Some, None, refl, sym, ap, ◌∙◌, arith}
+use Rattle.std.proofs.Common.{◌≡◌, ℕ, suc, ◌<◌, true, false, List, [], ◌∷◌, ◌++◌, length, map, Option, Some, None, refl, arith}
 use Rattle.std.specs.Prelude.{codes, decimal}
 use Rattle.std.specs.List.{All, list_all}
 use Rattle.std.specs.Str.{bytes_eq}
@@ -14,9 +14,9 @@ use Rattle.ccr_text.specs.Spelling.{joined}
 use Rattle.ccr_trace.specs.Words.{task_word, message_word}
 use Rattle.ccr_text.specs.Exact.{value_word}
 use Rattle.ccr_trace.specs.HistoryText.{cut_words, dropped_words, end_words}
-use Rattle.ccr_trace.specs.Said.{SpotName, Said, Post, Fire, Admit, Put, Start, End, said_words, spelled, spot_name_word, IsSaid, IsTask, IsMessage, IsName, IsValue, IsDropped, IsEnd}
-use Rattle.ccr_trace.specs.Fields.{◌>>=◌, each, exact_number, short_number, value_of, task_of, message_of, spot_of}
-use Rattle.ccr_trace.specs.Forms.{word, cuts, fired, post_said, fire_said, admit_said, dropped_said, put_said, start_said, how_said, end_said, form_said, said_on}
+use Rattle.ccr_trace.specs.Said.{SpotName, Said, Post, Fire, Admit, Put, Start, End, said_words, spelled, spot_name_word, IsSaid, IsTask, IsMessage, IsName, IsDropped, IsEnd}
+use Rattle.ccr_trace.specs.Fields.{task_of}
+use Rattle.ccr_trace.specs.Forms.{cuts, fired, post_said, fire_said, admit_said, dropped_said, put_said, start_said, how_said, end_said, form_said, said_on}
 use Rattle.ccr_text.specs.Fields.{Words}
 use Rattle.ccr_trace.proofs.ReadTellsSteps.{is_some_of-some}
 use Rattle.ccr_trace.proofs.Parting.{AreMarked, pieces-joined, marked_both, marked_map}

@@ -1,6 +1,6 @@
 -- A line says only what it spells.
-use Rattle.std.proofs.Common.{◌≡◌, ℕ, ◌^◌, ◌<◌, Bool, true, false, cond, List, [], ◌∷◌, ◌++◌, length, map, Option, Some, None, ◌⊎◌, inl, inr, refl, sym, ap, subst, ◌∙◌, append-nil, arith}
-use Rattle.std.specs.Prelude.{codes, decimal, ◌&&◌}
+use Rattle.std.proofs.Common.{◌≡◌, ℕ, ◌<◌, true, cond, List, [], ◌∷◌, ◌++◌, length, map, Option, Some, None, inl, inr, refl, sym, ap, subst, ◌∙◌, append-nil, arith}
+use Rattle.std.specs.Prelude.{codes, decimal}
 use Rattle.std.specs.List.{All, list_all, join_with_byte}
 use Rattle.std.specs.Str.{bytes_eq}
 use Rattle.std.proofs.lemmas.List.Elements.{All-nil, All-cons}
@@ -17,8 +17,8 @@ use Rattle.ccr_trace.specs.Words.{task_word, message_word}
 use Rattle.ccr_text.specs.Exact.{value_word}
 use Rattle.ccr_trace.specs.HistoryText.{cut_words, dropped_words, end_words}
 use Rattle.ccr_trace.specs.Pieces.{pieces}
-use Rattle.ccr_trace.specs.Said.{SpotName, Said, Post, Fire, Admit, Put, Start, End, said_words, spelled, spot_name_word, IsSaid, IsTask, IsMessage, IsName, IsDropped, IsEnd}
-use Rattle.ccr_trace.specs.Fields.{◌>>=◌, each, exact_number, short_number, value_of, name_of, task_of, message_of, spot_of}
+use Rattle.ccr_trace.specs.Said.{Said, Post, Fire, Admit, Put, Start, End, said_words, spelled, spot_name_word, IsSaid, IsTask, IsMessage, IsName, IsDropped, IsEnd}
+use Rattle.ccr_trace.specs.Fields.{◌>>=◌, each, short_number, value_of, name_of, task_of, message_of, spot_of}
 use Rattle.ccr_trace.specs.Forms.{word, no_more, only, field, is_some_of, cuts, fired, post_said, fire_said, admit_said, dropped_said, put_said, start_said, plain_end, failed, how_said, end_said, form_said, said_on}
 use Rattle.ccr_trace.proofs.ReadTellsSteps.{bind_some, some_is, only_one, only_some, word_some, no_more_some, field_some, some_of}
 use Rattle.ccr_text.specs.Fields.{Words}

@@ -5,8 +5,8 @@ use Rattle.std.specs.Str.{bytes_eq}
 use Rattle.std.proofs.lemmas.Bool.Decides.{nat_tests}
 use Rattle.ccr_wiring.specs.declared.parts.Parts.{Parts}
 use Rattle.ccr_model.specs.declared.history.Event.{Event}
-use Rattle.ccr_trace.specs.declared.stop.Stop.{Stop}
-use Rattle.ccr_trace.specs.declared.stop.Stop.TheVariants as stops
+use Rattle.ccr_trace.specs.declared.unread.Unread.{Unread}
+use Rattle.ccr_trace.specs.declared.unread.Unread.TheVariants as stops
 use Rattle.ccr_trace.specs.declared.refused.HistoryRefused.{HistoryRefused}
 use Rattle.ccr_trace.specs.declared.refused.HistoryRefused.TheVariants as refusals
 use Rattle.ccr_trace.specs.declared.reading.ReadHistory.{ReadHistory}
@@ -49,7 +49,7 @@ reading_stops parts read line [] code e other is = absurd cc
 reading_stops parts read line (next ∷ rest) code e other is = rw (other, is) refl
 
 -- what is answered there
-pub stopped : (parts : Parts) (read : ReadHistory) (line : List ℕ) (rest : List (List ℕ)) (stop : Stop) (whole : Result ReadHistory (ℕ × ℕ)) → (length rest == 0) ≡ false → bytes_eq line (codes "report 1") ≡ false → HasCode stop (event_on parts line)
+pub stopped : (parts : Parts) (read : ReadHistory) (line : List ℕ) (rest : List (List ℕ)) (stop : Unread) (whole : Result ReadHistory (ℕ × ℕ)) → (length rest == 0) ≡ false → bytes_eq line (codes "report 1") ≡ false → HasCode stop (event_on parts line)
     → reading_from parts read (line ∷ rest) ≡ whole → IsReading (Err (refused (read.lines + 1) stop)) whole
 stopped parts read line rest stops.Memory whole e other is same = tt
 stopped parts read line rest stops.Malformed whole e other is same = sym same ∙ reading_stops parts read line rest 1 e other is

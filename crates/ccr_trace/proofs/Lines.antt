@@ -1,8 +1,8 @@
 -- A line by its first word and what stands behind it.
-use Rattle.std.proofs.Common.{◌≡◌, ℕ, List, [], ◌∷◌, ◌++◌, codes, refl, ap, sym, ◌∙◌, append_assoc, arith}
+use Rattle.std.proofs.Common.{◌≡◌, ℕ, List, [], ◌∷◌, ◌++◌, codes, ap, sym, ◌∙◌, append_assoc, arith}
 use Rattle.std.proofs.lemmas.Grind.{common_steps}
 use Rattle.ccr_text.specs.Spelling.{joined, line_text}
-use Rattle.std.specs.Prelude.{map, decimal}
+use Rattle.std.specs.Prelude.{decimal}
 use Rattle.ccr_trace.specs.Words.{other_numbers}
 use Rattle.ccr_text.specs.Exact.{value_word}
 use Rattle.ccr_trace.specs.HistoryText.{behind}

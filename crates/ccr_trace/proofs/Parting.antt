@@ -1,6 +1,6 @@
 -- Words that have no separator are found again between separators.
 use Rattle.std.proofs.Common.{◌≡◌, ℕ, suc, Bool, true, false, List, [], ◌∷◌, ◌++◌, map, refl, sym, ap, ◌∙◌, arith}
-use Rattle.std.specs.Prelude.{◌==◌, ◌&&◌, not}
+use Rattle.std.specs.Prelude.{◌==◌, not}
 use Rattle.std.specs.List.{list_all, join_with_byte, All}
 use Rattle.std.proofs.lemmas.Bool.Decides.{nat_tests}
 use Rattle.std.proofs.lemmas.List.Elements.{recursion_from_All}
@@ -58,13 +58,6 @@ lacks_tested test separator [] none e = refl
 lacks_tested test separator (b ∷ bytes) none e =
     let parts = both (test b) (list_all test bytes) e in
     rw (by_test test separator b none parts.0, lacks_tested test separator bytes none parts.1) refl
-
--- bytes that pass one test pass another
-pub tested_by : (test wider : ℕ → Bool) (bytes : List ℕ) → ((b : ℕ) → test b ≡ true → wider b ≡ true) → list_all test bytes ≡ true → list_all wider bytes ≡ true
-tested_by test wider [] more e = refl
-tested_by test wider (b ∷ bytes) more e =
-    let parts = both (test b) (list_all test bytes) e in
-    rw (more b parts.0, tested_by test wider bytes more parts.1) refl
 
 -- the bytes of words alone
 abbrev pub marked : List ℕ → Bool

@@ -1,7 +1,7 @@
 -- The text of a history and what is read of it.
-use Rattle.std.proofs.Common.{◌≡◌, ℕ, suc, ◌+◌, ◌<◌, Bool, true, false, cond, List, [], ◌∷◌, ◌++◌, length, map, Result, Ok, Some, inl, inr, refl, sym, ap, ◌∙◌, append_assoc, append-nil, length-append, arith}
+use Rattle.std.proofs.Common.{◌≡◌, ℕ, suc, ◌+◌, Bool, true, false, cond, List, [], ◌∷◌, ◌++◌, length, map, Ok, Some, inl, inr, refl, sym, ap, ◌∙◌, append_assoc, append-nil, length-append, arith}
 use Rattle.std.specs.Prelude.{◌==◌, codes}
-use Rattle.std.specs.List.{All, join_with_byte}
+use Rattle.std.specs.List.{join_with_byte}
 use Rattle.std.specs.Str.{bytes_eq}
 use Rattle.std.proofs.lemmas.List.Concat.{flat_map-cons}
 use Rattle.std.proofs.lemmas.List.Elements.{recursion_from_All}
@@ -17,8 +17,8 @@ use Rattle.ccr_trace.specs.declared.reading.ReadHistory.{ReadHistory}
 use Rattle.ccr_trace.specs.Pieces.{pieces}
 use Rattle.ccr_trace.specs.HistoryText.{first_words, event_words, history_text}
 use Rattle.ccr_trace.specs.Forms.{said_on}
-use Rattle.ccr_trace.specs.Known.{known, IsKnown, HasMessages, IsShort, AreKnown, HaveMessages, AreShort}
-use Rattle.ccr_trace.specs.Reading.{event_of, event_on, first_line, head, with_event, reading_from, reading_lines, reading}
+use Rattle.ccr_trace.specs.Known.{IsKnown, HasMessages, IsShort, AreKnown, HaveMessages, AreShort}
+use Rattle.ccr_trace.specs.Reading.{event_on, first_line, head, with_event, reading_from, reading_lines, reading}
 use Rattle.ccr_trace.proofs.Cutting.{pieces_some}
 use Rattle.ccr_trace.proofs.Parting.{AreMarked, lacks, pieces_first, joined_lacks}
 use Rattle.ccr_trace.proofs.WordsRead.{AreNumbers}
@@ -27,7 +27,7 @@ use Rattle.ccr_trace.proofs.FormsRead.{said_again, said_marked}
 use Rattle.ccr_trace.proofs.EventsSaid.{said_of, words_of_said, said_good, known_again, known_words}
 use Rattle.ccr_trace.proofs.KnownEvents.{event_said}
 use Rattle.ccr_trace.proofs.LineSteps.{reading_next, reading_done, lines_next, first_bytes}
-use Rattle.ccr_trace.proofs.Outcomes.{Read, done, behind, ok_is, step_ok, head_ok}
+use Rattle.ccr_trace.proofs.Outcomes.{done, behind, ok_is, step_ok, head_ok}
 
 -- the first line has no LF
 first_lacks : (parts : Parts) → lacks 10 (first_line parts) ≡ true

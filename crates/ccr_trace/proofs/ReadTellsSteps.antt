@@ -1,6 +1,6 @@
 -- What a place or form that was read tells of its steps.
 use Rattle.std.proofs.Common.{◌≡◌, ℕ, ◌<◌, ◌≤◌, Bool, true, false, cond, List, [], ◌∷◌, length, map, Option, Some, None, refl, sym, ap, ◌∙◌, ◌^◌, arith}
-use Rattle.std.specs.Prelude.{◌==◌, not, nat_lt, nat_le, decimal}
+use Rattle.std.specs.Prelude.{nat_lt, nat_le, decimal}
 use Rattle.std.specs.Str.{bytes_eq}
 use Rattle.std.proofs.lemmas.Bool.Decides.{nat_tests}
 use Rattle.std.proofs.lemmas.List.{length-map}

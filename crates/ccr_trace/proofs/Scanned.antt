@@ -1,5 +1,5 @@
 -- Words that one scan finds are what whole words say.
-use Rattle.std.proofs.Common.{◌≡◌, ℕ, Bool, true, false, cond, List, [], ◌∷◌, ◌++◌, length, Option, Some, None, refl, sym, ap, ◌∙◌, append_assoc}
+use Rattle.std.proofs.Common.{◌≡◌, ℕ, Bool, true, false, cond, List, [], ◌∷◌, ◌++◌, length, Some, None, refl, sym, ap, ◌∙◌, append_assoc}
 use Rattle.std.specs.Prelude.{◌==◌, ◌&&◌, not, nat_lt, ◌^◌}
 use Rattle.std.specs.List.{list_all, join_with_byte}
 use Rattle.std.specs.Char.{is_ascii_digit}
@@ -7,7 +7,7 @@ use Rattle.std.proofs.lemmas.List.Splits.{join_with_byte-slice_split}
 use Rattle.ccr_base.specs.declared.names.MsgId.TheVariants as ids
 use Rattle.ccr_text.specs.Words.{is_digits, value_after, number_of}
 use Rattle.ccr_trace.specs.Pieces.{pieces}
-use Rattle.ccr_trace.specs.Fields.{◌>>=◌, where_spelled, where_short, exact_number, short_number, task_in, task_of, script_in, answer_in, message_of}
+use Rattle.ccr_trace.specs.Fields.{where_spelled, where_short, exact_number, short_number, task_of, message_of}
 use Rattle.ccr_trace.specs.Forms.{field}
 use Rattle.ccr_text.specs.Fields.{Words}
 use Rattle.ccr_trace.proofs.Cutting.{pieces_some}

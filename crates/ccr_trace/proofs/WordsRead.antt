@@ -1,7 +1,7 @@
 -- A word that is spelled is read again.
 use Rattle.std.proofs.Common.{◌≡◌, ℕ, suc, ◌^◌, ◌<◌, Bool, true, false, cond, List, [], ◌∷◌, ◌++◌, length, map, Option, Some, None, refl, sym, ap, subst, ◌∙◌, append_assoc, append-nil, arith}
-use Rattle.std.specs.Prelude.{◌==◌, ◌&&◌, nat_lt, nat_le, decimal}
-use Rattle.std.specs.List.{All, list_all, join_with_byte}
+use Rattle.std.specs.Prelude.{◌&&◌, nat_lt, nat_le, decimal}
+use Rattle.std.specs.List.{All, list_all}
 use Rattle.std.specs.Char.{is_ascii_digit, is_ascii_alphabetic}
 use Rattle.std.proofs.lemmas.Bool.Decides.{nat_tests}
 use Rattle.std.proofs.lemmas.List.Elements.{recursion_from_All}
@@ -9,14 +9,14 @@ use Rattle.ccr_base.specs.declared.names.TaskId.{TaskId}
 use Rattle.ccr_base.specs.declared.names.MsgId.{MsgId}
 use Rattle.ccr_base.specs.declared.names.MsgId.TheVariants as ids
 use Rattle.ccr_base.proofs.Texts.{same_text}
-use Rattle.ccr_text.specs.Words.{is_digits, is_graphic, value_after, number_of, may_be_in_name, is_name_of}
+use Rattle.ccr_base.proofs.Lists.{all_weaker}
+use Rattle.ccr_text.specs.Words.{is_digits, is_graphic, value_after, number_of, may_be_in_name}
 use Rattle.ccr_trace.specs.Words.{task_word, message_word}
 use Rattle.ccr_text.specs.Exact.{value_word}
 use Rattle.ccr_trace.specs.Pieces.{pieces}
 use Rattle.ccr_trace.specs.Said.{SpotName, spot_name_word, site_word, most_numbers, IsTask, IsMessage, IsName, IsSite, IsValue}
-use Rattle.ccr_trace.specs.Fields.{◌>>=◌, each, where_spelled, where_short, where_few, exact_number, short_number, value_of, task_in, task_of, script_in, answer_in, message_of, spot_with, spot_in, spot_of}
-use Rattle.ccr_text.specs.Fields.{Words}
-use Rattle.ccr_trace.proofs.Parting.{lacks, AreLacking, pieces_first, pieces_only, pieces_join, lacks_tested, tested_by, marked, marked-append}
+use Rattle.ccr_trace.specs.Fields.{each, exact_number, short_number, value_of, task_of, message_of, spot_in, spot_of}
+use Rattle.ccr_trace.proofs.Parting.{lacks, AreLacking, pieces_first, pieces_only, pieces_join, lacks_tested, marked, marked-append}
 use Rattle.std.proofs.lemmas.Bool.{and_parts as both}
 
 -- the digits of each number are read as that number
@@ -36,7 +36,7 @@ name_lacks : (name : List ℕ) → IsName name → lacks 64 name ≡ true
 name_lacks name good = lacks_tested may_be_in_name 64 name refl (letters name good)
 
 pub name_marked : (name : List ℕ) → IsName name → marked name ≡ true
-name_marked name good = tested_by may_be_in_name is_graphic name (λ b may. grind (arith, nat_tests, may)) (letters name good)
+name_marked name good = all_weaker may_be_in_name is_graphic (λ b may. grind (arith, nat_tests, may)) name (letters name good)
 
 -- each word that is spelled is read again
 pub each_read : {A : Type 0} (read : List ℕ → Option A) (spell : A → List ℕ) (Good : A → Type 0) → ((x : A) → Good x → read (spell x) ≡ Some x) → (xs : List A) → All Good xs → each read (map spell xs) ≡ Some xs
@@ -101,7 +101,7 @@ module _ (numbers : AreNumbers) where
   spot_read spot good site = spot_parts spot good site
 
   pub number_marked : (n : ℕ) → n < 2 ^ 64 → marked (decimal n) ≡ true
-  number_marked n fits = tested_by is_ascii_digit is_graphic (decimal n) (λ b digit. grind (arith, nat_tests, digit)) (digits_of n fits)
+  number_marked n fits = all_weaker is_ascii_digit is_graphic (λ b digit. grind (arith, nat_tests, digit)) (decimal n) (digits_of n fits)
 
   short_marked : (n : ℕ) → n < 2 ^ 32 → marked (decimal n) ≡ true
   short_marked n fits = number_marked n (omega arith)

@@ -1,6 +1,6 @@
 -- A word says only what it spells.
 use Rattle.std.proofs.Common.{◌≡◌, ℕ, ◌^◌, ◌<◌, Bool, true, false, cond, List, [], ◌∷◌, ◌++◌, length, map, Option, Some, None, ◌⊎◌, inl, inr, refl, sym, ap, subst, ◌∙◌, append_assoc, append-nil, arith}
-use Rattle.std.specs.Prelude.{◌==◌, ◌&&◌, nat_lt, nat_le, decimal}
+use Rattle.std.specs.Prelude.{◌==◌, ◌&&◌, nat_lt, decimal}
 use Rattle.std.specs.List.{join_with_byte, All}
 use Rattle.std.proofs.lemmas.Bool.Decides.{nat_tests}
 use Rattle.std.proofs.lemmas.List.Elements.{All-nil, All-cons}
@@ -13,8 +13,8 @@ use Rattle.ccr_text.specs.Words.{is_digits, value_after, number_of, is_name_of}
 use Rattle.ccr_trace.specs.Words.{task_word, message_word}
 use Rattle.ccr_text.specs.Exact.{value_word}
 use Rattle.ccr_trace.specs.Pieces.{pieces}
-use Rattle.ccr_trace.specs.Said.{SpotName, spot_name_word, site_word, most_numbers, IsTask, IsMessage, IsName, IsSite, IsValue}
-use Rattle.ccr_trace.specs.Fields.{◌>>=◌, each, where_spelled, where_short, where_few, exact_number, short_number, value_of, name_of, task_in, task_of, script_in, answer_in, message_of, spot_with, spot_in, spot_of}
+use Rattle.ccr_trace.specs.Said.{SpotName, spot_name_word, most_numbers, IsTask, IsMessage, IsName, IsSite, IsValue}
+use Rattle.ccr_trace.specs.Fields.{each, where_spelled, where_short, where_few, exact_number, short_number, value_of, name_of, task_in, task_of, script_in, answer_in, message_of, spot_with, spot_in, spot_of}
 use Rattle.ccr_trace.proofs.ReadTellsSteps.{bind_some, some_is, only_one, spelled_is, short_is, few_is, some_pieces}
 use Rattle.ccr_text.specs.Fields.{Words}
 

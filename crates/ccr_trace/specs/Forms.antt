@@ -1,4 +1,4 @@
--- What a line says, place by place: nothing where it has none of the forms.
+-- What a line says, field by field: nothing where it has none of the forms.
 use Rattle.std.specs.Prelude.{ℕ, Bool, not, List, [], ◌∷◌, length, ◌==◌, codes, Option, Some, None, if◌then◌else◌}
 use Rattle.std.specs.List.{list_all}
 use Rattle.std.specs.Str.{bytes_eq}

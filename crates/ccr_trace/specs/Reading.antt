@@ -1,5 +1,5 @@
 -- Reading a history line by line: the first line that offends, and its code.
-use Rattle.std.specs.Prelude.{ℕ, ◌+◌, max, List, [], ◌∷◌, ◌++◌, length, codes, Option, Some, None, Result, Ok, Err, if◌then◌else◌}
+use Rattle.std.specs.Prelude.{ℕ, ◌+◌, ◌^◌, max, List, [], ◌∷◌, ◌++◌, length, codes, Option, Some, None, Result, Ok, Err, if◌then◌else◌}
 use Rattle.std.specs.Str.{bytes_eq}
 use Rattle.ccr_wiring.specs.declared.parts.Parts.{Parts}
 use Rattle.ccr_model.specs.declared.history.Event.{Event}
@@ -20,6 +20,10 @@ event_of parts (Some said) = or_code (known parts said) 2
 -- the event of a line, without its LF
 abbrev pub event_on : Parts → List ℕ → Result Event ℕ
 event_on parts line = event_of parts (said_on parts.version line)
+
+-- the lines of a text stay below this
+abbrev pub line_limit : ℕ
+line_limit = 2 ^ 31
 
 -- where the text ends before a line `report 1`: bytes behind the last LF are a line that lacks its LF
 abbrev pub ended : ℕ → List ℕ → ℕ × ℕ

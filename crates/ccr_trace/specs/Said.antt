@@ -1,6 +1,7 @@
 -- What a line of a history says, with ports, causes and spots as the words for them, and the one spelling of it.
 use Rattle.std.specs.Prelude.{◌≡◌, ℕ, ◌^◌, ◌<◌, ◌≤◌, ◌==◌, true, List, [], ◌∷◌, ◌++◌, length, map, codes, decimal, Option, Some, None, if◌then◌else◌}
 use Rattle.std.specs.List.{All}
+use Rattle.ccr_base.specs.Bounds.{most_value_numbers}
 use Rattle.ccr_base.specs.declared.names.TaskId.{TaskId}
 use Rattle.ccr_base.specs.declared.names.MsgId.{MsgId}
 use Rattle.ccr_base.specs.declared.names.MsgId.TheVariants as ids
@@ -72,7 +73,7 @@ IsDropped (Some task) = IsTask task
 
 -- how many numbers a value has at most: 8 in version 2, else one
 abbrev pub most_numbers : ℕ → ℕ
-most_numbers version = if version == 2 then 8 else 1
+most_numbers version = if version == 2 then most_value_numbers else 1
 
 -- a number at least, and each below 2 ^ 64
 abbrev pub HasNumbers : List ℕ → Type 0

@@ -1,5 +1,6 @@
 -- How many numbers the values of a history have at most.
 use Rattle.std.specs.Prelude.{ℕ, ◌≤◌, List, length, All}
+use Rattle.ccr_base.specs.Bounds.{most_value_numbers}
 use Rattle.ccr_model.specs.declared.history.Event.{Event}
 use Rattle.ccr_model.specs.declared.history.Event.TheVariants as events
 use Rattle.ccr_model.specs.declared.history.EndHow.{EndHow}
@@ -11,7 +12,7 @@ IsSingle value = length value ≤ 1
 
 -- at most 8, as a value's type has it
 abbrev pub IsSmallValue : List ℕ → Type 0
-IsSmallValue value = length value ≤ 8
+IsSmallValue value = length value ≤ most_value_numbers
 
 -- the value of a failure has at most 8 numbers
 abbrev pub IsSmallEnd : EndHow → Type 0

@@ -4,25 +4,24 @@ ghost use Rattle.std.specs.Prelude.{◌≡◌, [], ◌∷◌, Some, IfSome, IfNo
 ghost use Rattle.std.specs.List.{list_all};
 ghost use Rattle.ccr_text.specs.Words.{is_name_of};
 ghost use Rattle.ccr_trace.specs.Pieces.{pieces};
-ghost use Rattle.ccr_trace.specs.Said.{SpotName};
 ghost use Rattle.ccr_trace.specs.Fields.{short_number, value_of, name_of, task_of, message_of, spot_of};
 ghost use Rattle.ccr_trace.specs.Forms.{word, no_more, only, field};
 ghost use Rattle.ccr_trace.specs.Answers.{Says, Leaves, LeavesBy};
 
 use crate::fields::{message_of, short_in, spot_of, task_of, value_of};
 use crate::pieces::Pieces;
-use crate::stop::Stop;
+use crate::unread::Unread;
 use ccr_base::{ActorNo, MsgId, TaskId, Value};
 use ccr_text::is_name;
 use std::marker::Model;
 
-/// The words that are left. Each method takes the words of one place; the line is malformed where they don't fit it.
+/// The words that are left. Each method takes the words of one field; the line is malformed where they don't fit it.
 #[derive(Drop)]
-pub struct Cursor<'a> {
+pub struct PieceCursor<'a> {
     words: Pieces<'a>,
 }
 
-impl<'a> Model for Cursor<'a> {
+impl<'a> Model for PieceCursor<'a> {
     ghost use Rattle.std.specs.Prelude.{List as Listed, ℕ};
 
     ghost Value = { Listed (Listed ℕ) };
@@ -30,12 +29,12 @@ impl<'a> Model for Cursor<'a> {
     ghost view = { λ cursor. cursor.words };
 }
 
-impl<'a> Cursor<'a> {
+impl<'a> PieceCursor<'a> {
     /// The words of a line without its LF. One space stands between two words.
     pub fn new(line: &'a [u8]) -> Self
         ensures { result ≡ pieces 32 line.now }
     {
-        Cursor {
+        PieceCursor {
             words: Pieces::new(b' ', line),
         }
     }
@@ -48,39 +47,39 @@ impl<'a> Cursor<'a> {
         self.words.take()
     }
 
-    pub fn word(&mut self) -> Result<&'a [u8], Stop>
+    pub fn word(&mut self) -> Result<&'a [u8], Unread>
         ensures { LeavesBy (λ word. word.now) self.new result (word self.old) }
     {
-        self.take().ok_or(Stop::Malformed)
+        self.take().ok_or(Unread::Malformed)
     }
 
-    pub fn no_more(&self) -> Result<(), Stop>
+    pub fn no_more(&self) -> Result<(), Unread>
         ensures { Says result (no_more self.now) }
     {
         if !self.words.is_empty() {
-            return Err(Stop::Malformed);
+            return Err(Unread::Malformed);
         }
         Ok(())
     }
 
-    pub fn task(&mut self) -> Result<TaskId, Stop>
+    pub fn task(&mut self) -> Result<TaskId, Unread>
         ensures { Leaves self.new result (field task_of self.old) }
     {
         if let Some(task) = self.words.plain_task() {
             return Ok(task);
         }
         let word = self.word()?;
-        task_of(word).ok_or(Stop::Malformed)
+        task_of(word).ok_or(Unread::Malformed)
     }
 
-    pub fn message(&mut self) -> Result<MsgId, Stop>
+    pub fn message(&mut self) -> Result<MsgId, Unread>
         ensures { Leaves self.new result (field message_of self.old) }
     {
         if let Some(message) = self.words.plain_message() {
             return Ok(message);
         }
         let word = self.word()?;
-        message_of(word).ok_or(Stop::Malformed)
+        message_of(word).ok_or(Unread::Malformed)
     }
 
     /// Takes the first word where one scan finds a message's name; else nothing is taken.
@@ -92,36 +91,36 @@ impl<'a> Cursor<'a> {
     }
 
     /// A word of the form of a name.
-    pub fn name(&mut self) -> Result<&'a [u8], Stop>
+    pub fn name(&mut self) -> Result<&'a [u8], Unread>
         ensures { LeavesBy (λ name. name.now) self.new result (field name_of self.old) }
     {
         let word = self.word()?;
         if !is_name(word) {
-            return Err(Stop::Malformed);
+            return Err(Unread::Malformed);
         }
         Ok(word)
     }
 
     /// A value in a wiring of this version.
-    pub fn value(&mut self, version: u32) -> Result<Value, Stop>
+    pub fn value(&mut self, version: u32) -> Result<Value, Unread>
         ensures { Leaves self.new result (field (value_of version) self.old) }
     {
         let word = self.word()?;
-        value_of(version, word).ok_or(Stop::Malformed)
+        value_of(version, word).ok_or(Unread::Malformed)
     }
 
-    pub fn actor(&mut self) -> Result<ActorNo, Stop>
+    pub fn actor(&mut self) -> Result<ActorNo, Unread>
         ensures { Leaves self.new result (field short_number self.old) }
     {
-        short_in(&mut self.words).ok_or(Stop::Malformed)
+        short_in(&mut self.words).ok_or(Unread::Malformed)
     }
 
     /// A branch's name, and its site where there is one.
-    pub fn spot(&mut self) -> Result<(&'a [u8], Option<u32>), Stop>
+    pub fn spot(&mut self) -> Result<(&'a [u8], Option<u32>), Unread>
         ensures { LeavesBy (λ spot. record { name = spot.0.now; site = spot.1 }) self.new result (field spot_of self.old) }
     {
         let word = self.word()?;
-        spot_of(word).ok_or(Stop::Malformed)
+        spot_of(word).ok_or(Unread::Malformed)
     }
 
     /// Whether the words that are left are of the form of names.
@@ -138,11 +137,11 @@ impl<'a> Cursor<'a> {
     }
 
     /// The words that are left are of the form of names.
-    pub fn names(&self) -> Result<(), Stop>
+    pub fn names(&self) -> Result<(), Unread>
         ensures { Says result (only (list_all is_name_of self.now)) }
     {
         if !self.are_names() {
-            return Err(Stop::Malformed);
+            return Err(Unread::Malformed);
         }
         Ok(())
     }

@@ -1,28 +1,28 @@
 //! A history's text, read event by event.
 
-ghost use Rattle.std.specs.Prelude.{◌≡◌, ◌<◌, ◌≤◌, ◌+◌, ◌^◌, Err, IfErr, IfNone, IfOk, IfSome, OnOk, length};
+ghost use Rattle.std.specs.Prelude.{◌≡◌, ◌<◌, ◌≤◌, ◌+◌, Err, IfErr, IfNone, IfOk, IfSome, OnOk, length};
 ghost use Rattle.ccr_base.specs.Bounds.{most_bytes};
 ghost use Rattle.ccr_trace.specs.Pieces.{bytes_in};
 ghost use Rattle.ccr_trace.specs.Codes.{code_number};
 ghost use Rattle.ccr_trace.specs.declared.refused.HistoryRefused.TheVariants.{At};
 ghost use Rattle.ccr_trace.specs.Answers.{IsReading, IsRefusal, refused};
 ghost use Rattle.ccr_trace.specs.EventReaders.{HasRead, HasReadAll, IsBefore, reading_of};
-ghost use Rattle.ccr_trace.specs.Reading.{ended, head, reading, reading_from, reading_lines};
+ghost use Rattle.ccr_trace.specs.Reading.{ended, head, line_limit, reading, reading_from, reading_lines};
 
 use crate::fields::is_text;
 use crate::first::is_first_line;
 use crate::forms::event_on;
 use crate::known::Known;
 use crate::pieces::Pieces;
-use crate::refused::{Code, HistoryRefused};
-use crate::stop::Stop;
+use crate::refused::{HistoryCode, HistoryRefused};
+use crate::unread::Unread;
 use ccr_model::{Event, GhostHistory};
 use ccr_wiring::{Parts, Wiring};
 use std::alloc::Global;
 use std::marker::Model;
 
 /// The line is refused with the code.
-fn refusal_at(line: u32, code: Code) -> HistoryRefused
+fn refusal_at(line: u32, code: HistoryCode) -> HistoryRefused
     ensures { result ≡ At line (code_number code) }
 {
     HistoryRefused::At {
@@ -32,25 +32,25 @@ fn refusal_at(line: u32, code: Code) -> HistoryRefused
 }
 
 /// What is answered where a line stops the reading.
-fn refused(line: u32, stop: Stop) -> HistoryRefused
+fn refused(line: u32, stop: Unread) -> HistoryRefused
     ensures { result ≡ refused line stop }
 {
     match stop {
-        Stop::Memory => HistoryRefused::Memory,
-        Stop::Malformed => refusal_at(line, Code::Malformed),
-        Stop::Unknown => refusal_at(line, Code::Unknown),
+        Unread::Memory => HistoryRefused::Memory,
+        Unread::Malformed => refusal_at(line, HistoryCode::Malformed),
+        Unread::Unknown => refusal_at(line, HistoryCode::Unknown),
     }
 }
 
 /// What is answered where the text ends: behind so many lines with their LF, these bytes have none.
 fn ended(lines: u32, bytes: &[u8]) -> HistoryRefused
-    requires { lines < 2 ^ 31 }
+    requires { lines < line_limit }
     ensures { IsRefusal result (ended lines bytes.now) }
 {
     if bytes.is_empty() {
-        return refusal_at(lines.max(1), Code::Unfinished);
+        return refusal_at(lines.max(1), HistoryCode::Unfinished);
     }
-    refusal_at(lines + 1, Code::Malformed)
+    refusal_at(lines + 1, HistoryCode::Malformed)
 }
 
 /// Takes the first line, which is `history 1`, or `history 2` in version 2.
@@ -66,7 +66,7 @@ fn take_first(parts: &Parts, lines: &mut Pieces<'_>) -> Result<(), HistoryRefuse
         return Err(ended(0, first));
     }
     if !is_first_line(parts, first) {
-        return Err(refusal_at(1, Code::Malformed));
+        return Err(refusal_at(1, HistoryCode::Malformed));
     }
     Ok(())
 }

@@ -16,11 +16,8 @@ use crate::plain::{
 use crate::words::{put_message, put_spot, put_task, put_value, put_word};
 use ccr_base::{CauseNo, List, Msg, MsgId, Name, OutOfMemory, Spot, TaskId, Value};
 use ccr_model::{EndHow, Event};
-use ccr_text::put_bytes;
+use ccr_text::{MAX_NAME_BYTES, put_bytes};
 use ccr_wiring::{CausePart, Parts, name_at};
-
-/// How long a name is at most in a line that is built from its end.
-const MAX_NAME_BYTES: usize = 16;
 
 /// Adds the event's line.
 pub fn put_event(

@@ -3,7 +3,6 @@
 ghost use Rattle.std.specs.Prelude.{◌≡◌, Some, None, IfSome, IfNone};
 ghost use Rattle.std.specs.Str.{bytes_eq};
 ghost use Rattle.std.specs.Option.{option_map};
-ghost use Rattle.ccr_trace.specs.Said.{SpotName};
 ghost use Rattle.ccr_trace.specs.Forms.{field};
 ghost use Rattle.ccr_trace.specs.Fields.{exact_number, short_number, values_in, value_of, task_in, task_of, script_in, answer_in, message_of, spot_with, spot_of};
 

@@ -1,28 +1,27 @@
 //! The lines of events: first what a line says, then what the wiring has of it.
 
-ghost use Rattle.std.specs.Prelude.{◌≡◌, not, ◌==◌, length};
-ghost use Rattle.std.specs.Option.{option_map};
+ghost use Rattle.std.specs.Prelude.{◌≡◌};
 ghost use Rattle.ccr_trace.specs.Fields.{each, task_of};
 ghost use Rattle.ccr_trace.specs.Forms.{cuts, fired, post_said, fire_said, admit_said, dropped_said, put_said, start_said, how_said, plain_end, end_said, form_said};
 ghost use Rattle.ccr_trace.specs.Reading.{event_of, event_on};
 ghost use Rattle.ccr_trace.specs.Answers.{Says, Leaves, Gives};
 
-use crate::cursor::Cursor;
+use crate::cursor::PieceCursor;
 use crate::fields::{is_text, message_of, task_of};
 use crate::known::Known;
-use crate::stop::Stop;
+use crate::unread::Unread;
 use ccr_base::{List, Msg, MsgId, TaskId};
 use ccr_model::{EndHow, Event};
 use std::alloc::Global;
 
 /// Each word that is left names a task.
 #[tactic(auto, using(crate::proofs::Each::each_steps))]
-fn tasks(alloc: Global, mut words: Cursor<'_>) -> Result<List<TaskId>, Stop>
+fn tasks(alloc: Global, mut words: PieceCursor<'_>) -> Result<List<TaskId>, Unread>
     ensures { Says result (each task_of words.entry) }
 {
     let mut tasks = List::new(alloc);
     'words: while let Some(word) = words.take() {
-        let task = task_of(word).ok_or(Stop::Malformed)?;
+        let task = task_of(word).ok_or(Unread::Malformed)?;
         tasks.push(task).map_err(|refused| refused.0)?;
     }
     Ok(tasks)
@@ -30,19 +29,19 @@ fn tasks(alloc: Global, mut words: Cursor<'_>) -> Result<List<TaskId>, Stop>
 
 /// TASK .., one at least.
 #[tactic(auto, unfolding(crate::specs::Forms::cuts))]
-fn cuts(alloc: Global, words: Cursor<'_>) -> Result<List<TaskId>, Stop>
+fn cuts(alloc: Global, words: PieceCursor<'_>) -> Result<List<TaskId>, Unread>
     ensures { Says result (cuts words.entry) }
 {
     let tasks = tasks(alloc, words)?;
     if tasks.as_slice().is_empty() {
-        return Err(Stop::Malformed);
+        return Err(Unread::Malformed);
     }
     Ok(tasks)
 }
 
 /// MSG .., and the tasks behind the word cut.
 #[tactic(auto, using(crate::proofs::Each::fired_steps))]
-fn fired(alloc: Global, mut words: Cursor<'_>) -> Result<(List<MsgId>, List<TaskId>), Stop>
+fn fired(alloc: Global, mut words: PieceCursor<'_>) -> Result<(List<MsgId>, List<TaskId>), Unread>
     ensures { Says result (fired words.entry) }
 {
     let mut messages = List::new(alloc);
@@ -53,7 +52,7 @@ fn fired(alloc: Global, mut words: Cursor<'_>) -> Result<(List<MsgId>, List<Task
         if is_text(word, "cut") {
             return Ok((messages, cuts(alloc, words)?));
         }
-        let message = message_of(word).ok_or(Stop::Malformed)?;
+        let message = message_of(word).ok_or(Unread::Malformed)?;
         messages.push(message).map_err(|refused| refused.0)?;
     }
     Ok((messages, List::new(alloc)))
@@ -61,7 +60,7 @@ fn fired(alloc: Global, mut words: Cursor<'_>) -> Result<(List<MsgId>, List<Task
 
 /// post MSG PORT VALUE CAUSE ..
 #[tactic(auto, unfolding(crate::specs::Forms::post_said, crate::specs::Known::known))]
-fn post(known: &Known<'_>, mut words: Cursor<'_>) -> Result<Event, Stop>
+fn post(known: &Known<'_>, mut words: PieceCursor<'_>) -> Result<Event, Unread>
     ensures { Gives result (event_of known.now (post_said known.now.version words.entry)) }
 {
     let id = words.message()?;
@@ -78,14 +77,14 @@ fn post(known: &Known<'_>, mut words: Cursor<'_>) -> Result<Event, Stop>
 
 /// fire TASK SPOT MSG .., with cut TASK .. behind it where there are cuts.
 #[tactic(auto, unfolding(crate::specs::Forms::fire_said, crate::specs::Known::known))]
-fn fire(alloc: Global, known: &Known<'_>, mut words: Cursor<'_>) -> Result<Event, Stop>
+fn fire(alloc: Global, known: &Known<'_>, mut words: PieceCursor<'_>) -> Result<Event, Unread>
     ensures { Gives result (event_of known.now (fire_said words.entry)) }
 {
     let task = words.task()?;
     let (name, site) = words.spot()?;
     let (messages, cuts) = fired(alloc, words)?;
     if messages.as_slice().is_empty() {
-        return Err(Stop::Malformed);
+        return Err(Unread::Malformed);
     }
     Ok(Event::Fire {
         task,
@@ -97,7 +96,7 @@ fn fire(alloc: Global, known: &Known<'_>, mut words: Cursor<'_>) -> Result<Event
 
 /// admit TASK
 #[tactic(auto, unfolding(crate::specs::Forms::admit_said, crate::specs::Known::known))]
-fn admit(known: &Known<'_>, mut words: Cursor<'_>) -> Result<Event, Stop>
+fn admit(known: &Known<'_>, mut words: PieceCursor<'_>) -> Result<Event, Unread>
     ensures { Gives result (event_of known.now (admit_said words.entry)) }
 {
     let task = words.task()?;
@@ -107,14 +106,14 @@ fn admit(known: &Known<'_>, mut words: Cursor<'_>) -> Result<Event, Stop>
 
 /// Nothing, or drop TASK.
 #[tactic(auto, unfolding(crate::specs::Forms::dropped_said))]
-fn dropped(mut words: Cursor<'_>) -> Result<Option<TaskId>, Stop>
+fn dropped(mut words: PieceCursor<'_>) -> Result<Option<TaskId>, Unread>
     ensures { Says result (dropped_said words.entry) }
 {
     let Some(word) = words.take() else {
         return Ok(None);
     };
     if !is_text(word, "drop") {
-        return Err(Stop::Malformed);
+        return Err(Unread::Malformed);
     }
     let task = words.task()?;
     words.no_more()?;
@@ -123,7 +122,7 @@ fn dropped(mut words: Cursor<'_>) -> Result<Option<TaskId>, Stop>
 
 /// put TASK, or put TASK drop TASK.
 #[tactic(auto, unfolding(crate::specs::Forms::put_said, crate::specs::Known::known))]
-fn put(known: &Known<'_>, mut words: Cursor<'_>) -> Result<Event, Stop>
+fn put(known: &Known<'_>, mut words: PieceCursor<'_>) -> Result<Event, Unread>
     ensures { Gives result (event_of known.now (put_said words.entry)) }
 {
     let task = words.task()?;
@@ -133,7 +132,7 @@ fn put(known: &Known<'_>, mut words: Cursor<'_>) -> Result<Event, Stop>
 
 /// start TASK ACTOR
 #[tactic(auto, unfolding(crate::specs::Forms::start_said, crate::specs::Known::known))]
-fn start(known: &Known<'_>, mut words: Cursor<'_>) -> Result<Event, Stop>
+fn start(known: &Known<'_>, mut words: PieceCursor<'_>) -> Result<Event, Unread>
     ensures { Gives result (event_of known.now (start_said words.entry)) }
 {
     let task = words.task()?;
@@ -159,7 +158,7 @@ fn plain_end(word: &[u8]) -> Option<EndHow>
 
 /// How a segment ends.
 #[tactic(auto, unfolding(crate::specs::Forms::how_said))]
-fn how(version: u32, words: &mut Cursor<'_>) -> Result<EndHow, Stop>
+fn how(version: u32, words: &mut PieceCursor<'_>) -> Result<EndHow, Unread>
     ensures { Leaves words.new result (how_said version words.old) }
 {
     let word = words.word()?;
@@ -167,12 +166,12 @@ fn how(version: u32, words: &mut Cursor<'_>) -> Result<EndHow, Stop>
         let value = words.value(version)?;
         return Ok(EndHow::Failed(value));
     }
-    plain_end(word).ok_or(Stop::Malformed)
+    plain_end(word).ok_or(Unread::Malformed)
 }
 
 /// end TASK done, end TASK failed VALUE, end TASK yield, end TASK shed.
 #[tactic(auto, unfolding(crate::specs::Forms::end_said, crate::specs::Known::known))]
-fn end(known: &Known<'_>, mut words: Cursor<'_>) -> Result<Event, Stop>
+fn end(known: &Known<'_>, mut words: PieceCursor<'_>) -> Result<Event, Unread>
     ensures { Gives result (event_of known.now (end_said known.now.version words.entry)) }
 {
     let task = words.task()?;
@@ -186,8 +185,8 @@ fn event_of_words(
     alloc: Global,
     known: &Known<'_>,
     first: &[u8],
-    words: Cursor<'_>,
-) -> Result<Event, Stop>
+    words: PieceCursor<'_>,
+) -> Result<Event, Unread>
     ensures { Gives result (event_of known.now (form_said known.now.version first.now words.entry)) }
 {
     if is_text(first, "post") {
@@ -203,15 +202,15 @@ fn event_of_words(
     } else if is_text(first, "end") {
         end(known, words)
     } else {
-        Err(Stop::Malformed)
+        Err(Unread::Malformed)
     }
 }
 
 /// The event of a line without its LF.
-pub fn event_on(alloc: Global, known: &Known<'_>, line: &[u8]) -> Result<Event, Stop>
+pub fn event_on(alloc: Global, known: &Known<'_>, line: &[u8]) -> Result<Event, Unread>
     ensures { Gives result (event_on known.now line.now) }
 {
-    let mut words = Cursor::new(line);
+    let mut words = PieceCursor::new(line);
     let first = words.word()?;
     event_of_words(alloc, known, first, words)
 }

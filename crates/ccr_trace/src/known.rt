@@ -2,14 +2,13 @@
 
 ghost use Rattle.std.specs.Prelude.{◌≡◌, ◌++◌, IfOk, OnOk, map};
 ghost use Rattle.ccr_trace.specs.Words.{branch_names, branch_names_of, cause_names};
-ghost use Rattle.ccr_trace.specs.Said.{SpotName};
 ghost use Rattle.ccr_trace.specs.Fields.{each};
 ghost use Rattle.ccr_trace.specs.Known.{number_in, spot_known};
 ghost use Rattle.ccr_trace.specs.Answers.{Finds};
 
-use crate::cursor::Cursor;
+use crate::cursor::PieceCursor;
 use crate::numbered_names::NumberedNames;
-use crate::stop::Stop;
+use crate::unread::Unread;
 use ccr_base::{CauseNo, List, Name, OutOfMemory, PortNo, Spot};
 use ccr_wiring::{ArbiterPart, CausePart, Parts, Wiring, valid_wirings_are_sound};
 use std::alloc::Global;
@@ -67,7 +66,6 @@ pub struct Known<'w> {
 impl<'w> Model for Known<'w> {
     ghost use Rattle.std.specs.Prelude.{◌≡◌};
     ghost use Rattle.ccr_wiring.specs.declared.parts.Parts.{Parts as Stated};
-    ghost use Rattle.ccr_wiring.specs.Valid.{IsValid};
     ghost use Rattle.ccr_trace.specs.Words.{branch_names, cause_names};
 
     ghost Value = { Stated };
@@ -111,20 +109,20 @@ impl<'w> Known<'w> {
         self.parts().version
     }
 
-    pub fn port(&self, name: &[u8]) -> Result<PortNo, Stop>
+    pub fn port(&self, name: &[u8]) -> Result<PortNo, Unread>
         ensures { Finds result (number_in self.now.ports name.now) }
     {
-        self.ports.get(name).ok_or(Stop::Unknown)
+        self.ports.get(name).ok_or(Unread::Unknown)
     }
 
     /// The causes of these names.
     #[tactic(auto, using(crate::proofs::Each::each_steps))]
-    pub fn causes(&self, mut names: Cursor<'_>) -> Result<List<CauseNo>, Stop>
+    pub fn causes(&self, mut names: PieceCursor<'_>) -> Result<List<CauseNo>, Unread>
         ensures { Finds result (each (number_in (cause_names self.now)) names.entry) }
     {
         let mut found = List::new(self.alloc);
         'names: while let Some(name) = names.take() {
-            let cause = self.causes.get(name).ok_or(Stop::Unknown)?;
+            let cause = self.causes.get(name).ok_or(Unread::Unknown)?;
             found.push(cause).map_err(|refused| refused.0)?;
         }
         Ok(found)
@@ -132,15 +130,15 @@ impl<'w> Known<'w> {
 
     /// The branch of that name, or its site where it has one of that number.
     #[tactic(auto, unfolding(crate::specs::Known::spot_known))]
-    pub fn spot(&self, name: &[u8], site: Option<u32>) -> Result<Spot, Stop>
+    pub fn spot(&self, name: &[u8], site: Option<u32>) -> Result<Spot, Unread>
         ensures { Finds result (spot_known self.now (record { name = name.now; site = site })) }
     {
-        let branch = self.branches.get(name).ok_or(Stop::Unknown)?;
+        let branch = self.branches.get(name).ok_or(Unread::Unknown)?;
         let Some(site) = site else {
             return Ok(Spot::Branch(branch));
         };
         if self.wiring.site_port(branch, site).is_none() {
-            return Err(Stop::Unknown);
+            return Err(Unread::Unknown);
         }
         Ok(Spot::Site(branch, site))
     }

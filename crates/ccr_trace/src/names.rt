@@ -20,12 +20,12 @@ pub fn cause_name(causes: &[CausePart], number: CauseNo) -> &[u8]
 
 /// A wiring's parts, whose names lines refer to. Those of its branches stand in one list.
 #[derive(Drop)]
-pub struct Names<'w> {
+pub struct WiringNames<'w> {
     parts: &'w Parts,
     branches: List<Name>,
 }
 
-impl<'w> Model for Names<'w> {
+impl<'w> Model for WiringNames<'w> {
     ghost use Rattle.std.specs.Prelude.{◌≡◌};
     ghost use Rattle.ccr_wiring.specs.declared.parts.Parts.{Parts as SomeParts};
     ghost use Rattle.ccr_trace.specs.Words.{branch_names};
@@ -37,14 +37,14 @@ impl<'w> Model for Names<'w> {
     ghost invariant = { λ names. names.branches ≡ branch_names names.parts.now };
 }
 
-impl<'w> Names<'w> {
+impl<'w> WiringNames<'w> {
     /// The names of the wiring.
     pub fn new(alloc: Global, wiring: &'w Wiring) -> Result<Self, OutOfMemory>
         ensures { IfOk result (λ names. names ≡ wiring.now) }
     {
         let parts = wiring.parts();
         let branches = branch_names(alloc, parts)?;
-        Ok(Names { parts, branches })
+        Ok(WiringNames { parts, branches })
     }
 
     /// The parts of the wiring.

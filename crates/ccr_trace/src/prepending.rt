@@ -2,7 +2,7 @@
 
 ghost use Rattle.std.specs.Prelude.{◌≡◌, ◌≤◌, ◌+◌, ◌++◌, ◌∷◌, length, decimal};
 ghost use Rattle.ccr_text.specs.Room.{Fits};
-ghost use Rattle.ccr_trace.specs.Words.{task_word, message_word};
+ghost use Rattle.ccr_trace.specs.Words.{most_message_bytes, most_task_bytes, task_word, message_word};
 ghost use Rattle.ccr_trace.specs.Said.{IsTask, IsMessage};
 
 use ccr_base::{MsgId, TaskId};
@@ -11,9 +11,9 @@ use ccr_text::LineBuffer;
 /// Two numbers with a full stop between them, behind a space and this letter.
 #[inline(always)]
 fn prepend_pair(line: &mut LineBuffer, letter: u8, first: u32, second: u32)
-    requires { Fits 23 line.old }
+    requires { Fits most_task_bytes line.old }
     ensures text { line.new ≡ 32 ∷ (letter ∷ (decimal first ++ (46 ∷ (decimal second ++ line.old)))) }
-    ensures short { length line.new ≤ length line.old + 23 }
+    ensures short { length line.new ≤ length line.old + most_task_bytes }
 {
     line.prepend_index(second);
     line.prepend_byte(b'.');
@@ -24,9 +24,9 @@ fn prepend_pair(line: &mut LineBuffer, letter: u8, first: u32, second: u32)
 
 #[inline(always)]
 pub(crate) fn prepend_task(line: &mut LineBuffer, task: TaskId)
-    requires { Fits 23 line.old }
+    requires { Fits most_task_bytes line.old }
     ensures text { line.new ≡ (32 ∷ task_word task) ++ line.old }
-    ensures short { length line.new ≤ length line.old + 23 }
+    ensures short { length line.new ≤ length line.old + most_task_bytes }
     ensures numbers { IsTask task }
 {
     prepend_pair(line, b't', task.actor, task.attempt);
@@ -34,9 +34,9 @@ pub(crate) fn prepend_task(line: &mut LineBuffer, task: TaskId)
 
 #[inline(always)]
 pub(crate) fn prepend_message(line: &mut LineBuffer, message: MsgId)
-    requires { Fits 34 line.old }
+    requires { Fits most_message_bytes line.old }
     ensures text { line.new ≡ (32 ∷ message_word message) ++ line.old }
-    ensures short { length line.new ≤ length line.old + 34 }
+    ensures short { length line.new ≤ length line.old + most_message_bytes }
     ensures numbers { IsMessage message }
 {
     match message {

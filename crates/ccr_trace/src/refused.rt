@@ -9,7 +9,7 @@ use thiserror::Error;
 
 /// What is wrong with a line.
 #[derive(Clone, Copy, PartialEq, Eq)]
-pub enum Code {
+pub enum HistoryCode {
     /// It has none of the forms.
     Malformed,
     /// It names what the wiring doesn't have.
@@ -18,15 +18,15 @@ pub enum Code {
     Unfinished,
 }
 
-impl Code {
+impl HistoryCode {
     /// The number of the code (docs/FORMATS.md).
     pub fn number(self) -> u8
         ensures { result ≡ code_number self }
     {
         match self {
-            Code::Malformed => 1,
-            Code::Unknown => 2,
-            Code::Unfinished => 3,
+            HistoryCode::Malformed => 1,
+            HistoryCode::Unknown => 2,
+            HistoryCode::Unfinished => 3,
         }
     }
 }

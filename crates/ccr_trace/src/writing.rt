@@ -11,7 +11,7 @@ ghost use Rattle.ccr_trace.specs.Written.{IsReadBefore, IsWritten};
 use crate::events::put_event;
 use crate::first::first_line;
 use crate::laws::what_is_written_is_read;
-use crate::names::Names;
+use crate::names::WiringNames;
 use crate::values::event_is_small;
 use ccr_base::{List, OutOfMemory};
 use ccr_model::{Event, History};
@@ -31,7 +31,11 @@ fn room_for(alloc: Global, events: usize) -> Result<List<u8>, OutOfMemory>
 }
 
 /// The text of the history without events, with room for the lines of so many: its first line.
-pub fn begin_text(alloc: Global, names: &Names<'_>, events: usize) -> Result<List<u8>, OutOfMemory>
+pub fn begin_text(
+    alloc: Global,
+    names: &WiringNames<'_>,
+    events: usize,
+) -> Result<List<u8>, OutOfMemory>
     ensures text { IfOk result (λ text. text ≡ history_text names.now []) }
     ensures written { IfOk result (IsWritten names.now []) }
 {
@@ -42,7 +46,11 @@ pub fn begin_text(alloc: Global, names: &Names<'_>, events: usize) -> Result<Lis
 }
 
 /// Adds the event's line to the text of the history before it.
-pub fn add_event(text: &mut List<u8>, names: &Names<'_>, event: &Event) -> Result<(), OutOfMemory>
+pub fn add_event(
+    text: &mut List<u8>,
+    names: &WiringNames<'_>,
+    event: &Event,
+) -> Result<(), OutOfMemory>
     ensures line { OnOk result (text.new ≡ text.old ++ line_text (event_words names.now event.now)) }
     ensures short { OnOk result (IsShort event.now) }
     ensures small { HasSmallValue event.now }
@@ -54,7 +62,11 @@ pub fn add_event(text: &mut List<u8>, names: &Names<'_>, event: &Event) -> Resul
 }
 
 /// A line for each event, behind the first line.
-fn add_events(text: &mut List<u8>, names: &Names<'_>, events: &[Event]) -> Result<(), OutOfMemory>
+fn add_events(
+    text: &mut List<u8>,
+    names: &WiringNames<'_>,
+    events: &[Event],
+) -> Result<(), OutOfMemory>
     requires { IsWritten names.now [] text.old }
     ensures { OnOk result (IsWritten names.now events.now text.new) }
 {
@@ -79,7 +91,7 @@ pub fn write_history(
 {
     what_is_written_is_read();
     let _parts = wiring.parts();
-    let names = Names::new(alloc, wiring)?;
+    let names = WiringNames::new(alloc, wiring)?;
     let events = history.events();
     let mut text = begin_text(alloc, &names, events.len())?;
     add_events(&mut text, &names, events)?;

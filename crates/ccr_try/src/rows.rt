@@ -10,7 +10,7 @@ pub struct Row<'a> {
 
 /// What a line says: that a case begins, what the rows behind it start from, or a row.
 #[derive(Clone, Copy)]
-pub enum Line<'a> {
+pub enum RowLine<'a> {
     Case(&'a str),
     With(&'a str),
     Past(&'a str),
@@ -19,24 +19,24 @@ pub enum Line<'a> {
 }
 
 /// The row of a line that begins with this word.
-fn row_of<'a>(call: &'a str, rest: &'a str) -> Line<'a> {
+fn row_of<'a>(call: &'a str, rest: &'a str) -> RowLine<'a> {
     match rest.split_once('>') {
-        Some((input, due)) => Line::Row(Row {
+        Some((input, due)) => RowLine::Row(Row {
             call,
             input: input.strip_suffix(' ').unwrap_or(input),
             due: due.strip_prefix(' ').unwrap_or(due),
         }),
-        None => Line::Nothing,
+        None => RowLine::Nothing,
     }
 }
 
 /// What the line says. `CALL INPUT > ANSWER` is a row; a line of another form says nothing.
-pub fn read_line<'a>(line: &'a str) -> Line<'a> {
+pub fn read_line<'a>(line: &'a str) -> RowLine<'a> {
     let (word, rest) = line.split_once(' ').unwrap_or((line, ""));
     match word {
-        "case" => Line::Case(rest),
-        "with" => Line::With(rest),
-        "past" => Line::Past(rest),
+        "case" => RowLine::Case(rest),
+        "with" => RowLine::With(rest),
+        "past" => RowLine::Past(rest),
         _ => row_of(word, rest),
     }
 }

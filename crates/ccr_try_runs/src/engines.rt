@@ -1,9 +1,9 @@
 //! The order of one thread.
 
-ghost use Rattle.std.specs.Prelude.{◌≡◌, ◌+◌, ◌≤◌, ◌^◌, IfOk, length, true};
+ghost use Rattle.std.specs.Prelude.{◌≡◌, ◌+◌, ◌≤◌, IfOk, length, true};
 ghost use Rattle.ccr_model.specs.Firings.{fired};
 ghost use Rattle.ccr_model.specs.Legal.{IsLegal, IsQuiet, is_complete};
-ghost use Rattle.ccr_model.specs.Order.{next_attempt};
+ghost use Rattle.ccr_model.specs.Order.{most_attempts, next_attempt};
 ghost use Rattle.ccr_runs.specs.EntryRuns.{IsRun};
 ghost use Rattle.ccr_service.specs.Expansion.{expansion};
 
@@ -16,11 +16,8 @@ use ccr_serial::{Serial, Stepped};
 use ccr_service::{Answer, Service, answers, expand, read_service};
 use ccr_trace::write_history;
 use ccr_try::{first_number, numbers_of, put, put_number, put_word, text_of};
-use ccr_wiring::Wiring;
+use ccr_wiring::{MAX_POSTERS, Wiring};
 use std::alloc::Global;
-
-/// The most posters.
-const MOST_POSTERS: usize = 16;
 
 /// The most bytes that a service text has.
 const LONGEST: usize = 1_048_576;
@@ -29,7 +26,7 @@ const LONGEST: usize = 1_048_576;
 fn shown(alloc: Global, wiring: &Wiring, full: &Full) -> Result<History, OutOfMemory>
     requires run { IsRun wiring.now 0 full.now.entries }
     ensures legal { IfOk result (λ history. IsLegal wiring.now history) }
-    ensures attempts { IfOk result (λ history. next_attempt (length wiring.now.posters + 0) (fired history) ≤ 2 ^ 31) }
+    ensures attempts { IfOk result (λ history. next_attempt (length wiring.now.posters + 0) (fired history) ≤ most_attempts) }
 {
     closers_are_new_to_runs();
     let _valid = wiring.parts();
@@ -39,10 +36,10 @@ fn shown(alloc: Global, wiring: &Wiring, full: &Full) -> Result<History, OutOfMe
 /// The history, gone on with until nothing more may happen.
 fn finished(alloc: Global, wiring: &Wiring, first: History) -> Result<History, OutOfMemory>
     requires legal { IsLegal wiring.now first }
-    requires attempts { next_attempt (length wiring.now.posters + 0) (fired first) ≤ 2 ^ 31 }
+    requires attempts { next_attempt (length wiring.now.posters + 0) (fired first) ≤ most_attempts }
 {
     let posters = wiring.parts().posters.as_slice().len();
-    if posters > MOST_POSTERS {
+    if posters > MAX_POSTERS {
         return Err(OutOfMemory);
     }
     match Serial::resume(alloc, wiring, posters as u32, first) {
@@ -65,7 +62,7 @@ fn shown_short(
     refused: u64,
 ) -> Result<History, OutOfMemory>
     ensures legal { IfOk result (λ history. IsLegal wiring.now history) }
-    ensures attempts { IfOk result (λ history. next_attempt (length wiring.now.posters + 0) (fired history) ≤ 2 ^ 31) }
+    ensures attempts { IfOk result (λ history. next_attempt (length wiring.now.posters + 0) (fired history) ≤ most_attempts) }
 {
     match shortened(alloc, wiring, turns, refused) {
         Ok(full) => shown(alloc, wiring, &full),
@@ -126,7 +123,7 @@ fn put_counts(engine: &mut Serial<'_>, out: &mut List<u8>) {
 /// How many events the engine has after each step.
 pub fn engine(alloc: Global, wiring: &Wiring, out: &mut List<u8>) {
     let posters = wiring.parts().posters.as_slice().len();
-    if posters > MOST_POSTERS {
+    if posters > MAX_POSTERS {
         return;
     }
     if let Ok(mut engine) = Serial::start(alloc, wiring, posters as u32) {
@@ -137,7 +134,7 @@ pub fn engine(alloc: Global, wiring: &Wiring, out: &mut List<u8>) {
 /// How many events the engine has at the end, which goes on from none.
 pub fn resume(alloc: Global, wiring: &Wiring, out: &mut List<u8>) {
     let posters = wiring.parts().posters.as_slice().len();
-    if posters > MOST_POSTERS {
+    if posters > MAX_POSTERS {
         return;
     }
     let resumed = Serial::resume(alloc, wiring, posters as u32 + 1, History::new(alloc));
@@ -171,7 +168,7 @@ fn whole(alloc: Global, wiring: &Wiring) -> Result<History, OutOfMemory>
     ensures quiet { IfOk result (IsQuiet wiring.now) }
 {
     let posters = wiring.parts().posters.as_slice().len();
-    if posters > MOST_POSTERS {
+    if posters > MAX_POSTERS {
         return Err(OutOfMemory);
     }
     Serial::start(alloc, wiring, posters as u32)?.finish()

@@ -23,7 +23,7 @@ mod tables;
 
 use ccr_base::List;
 use ccr_io::{StdSink, StdSource, read_all, write_all};
-use ccr_try::{Line, Row, is_due, put, read_line, text_of};
+use ccr_try::{Row, RowLine, is_due, put, read_line, text_of};
 use ccr_wiretext::read_wiring;
 use ccr_wiring::Wiring;
 use std::alloc::Global;
@@ -144,15 +144,15 @@ fn tell_rows(rt: &HostRuntime, text: &str) -> io::Result<()> {
     let (mut case, mut with) = ("", "");
     for line in text.split('\n') {
         match read_line(line) {
-            Line::Case(name) => case = name,
-            Line::With(start) => with = start,
-            Line::Row(row) => {
+            RowLine::Case(name) => case = name,
+            RowLine::With(start) => with = start,
+            RowLine::Row(row) => {
                 rows = rows.saturating_add(1);
                 if !is_right(rt, case, with, &row, line)? {
                     wrong = wrong.saturating_add(1);
                 }
             }
-            Line::Past(_) | Line::Nothing => {}
+            RowLine::Past(_) | RowLine::Nothing => {}
         }
     }
     println!(rt; "{rows} rows, {wrong} wrong")

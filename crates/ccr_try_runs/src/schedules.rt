@@ -1,19 +1,18 @@
 //! Runs by turns.
 
-ghost use Rattle.std.specs.Prelude.{◌≡◌, ◌≤◌, ◌<◌, ◌+◌, All, IfOk, IsTrue, length};
+ghost use Rattle.std.specs.Prelude.{◌≤◌, ◌<◌, All, IfOk, IsTrue};
 ghost use Rattle.ccr_base.specs.Bounds.{most_workers};
+ghost use Rattle.ccr_wiring.specs.Actors.{actor_count};
 ghost use Rattle.ccr_runs.specs.EntryRuns.{IsRun};
 
-use ccr_base::{ActorNo, List, OutOfMemory};
-use ccr_net::{run_schedule, run_short};
+use ccr_base::{ActorNo, List, MAX_WORKERS, OutOfMemory};
+use ccr_net::run_schedule;
+use ccr_plain::run_short;
 use ccr_replay::{schedule_of, steps_text};
 use ccr_runs::Full;
 use ccr_try::{first_number, numbers_of, put, put_number, put_numbers, put_word};
 use ccr_wiring::Wiring;
 use std::alloc::Global;
-
-/// The most workers.
-const MOST_WORKERS: u32 = 16;
 
 fn are_below(turns: &[ActorNo], count: usize) -> bool
     ensures { IsTrue result → All (λ turn. turn < count) turns.now }
@@ -24,7 +23,7 @@ fn are_below(turns: &[ActorNo], count: usize) -> bool
 /// Whether the turns are of actors of the wiring.
 fn are_turns(wiring: &Wiring, workers: u32, turns: &[ActorNo]) -> bool
     requires { workers ≤ most_workers }
-    ensures { IsTrue result → All (λ turn. turn < length wiring.now.posters + workers) turns.now }
+    ensures { IsTrue result → All (λ turn. turn < actor_count wiring.now workers) turns.now }
 {
     let posters = wiring.parts().posters.as_slice().len();
     are_below(turns, posters + workers as usize)
@@ -37,7 +36,7 @@ fn run(
     workers: u32,
     turns: &[ActorNo],
 ) -> Result<Full, OutOfMemory> {
-    if workers > MOST_WORKERS || !are_turns(wiring, workers, turns) {
+    if workers > MAX_WORKERS || !are_turns(wiring, workers, turns) {
         return Err(OutOfMemory);
     }
     run_schedule(alloc, wiring, workers, turns)
@@ -77,7 +76,7 @@ pub fn steps(alloc: Global, wiring: &Wiring, input: &str, out: &mut List<u8>) {
 /// For `WORKERS TURN ..` the turns that give the run again.
 pub fn schedule(alloc: Global, wiring: &Wiring, input: &str, out: &mut List<u8>) {
     let (workers, turns) = first_number(input);
-    if workers > MOST_WORKERS {
+    if workers > MAX_WORKERS {
         return;
     }
     let turns = numbers_of(alloc, turns);

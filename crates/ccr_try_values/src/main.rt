@@ -20,7 +20,7 @@ mod words;
 use crate::making::put_code;
 use crate::sizes::{FULL, SMALL, Sizes, parts, set};
 use ccr_base::List;
-use ccr_try::{Line, Row, first_number, is_due, put, read_line, text_of};
+use ccr_try::{Row, RowLine, first_number, is_due, put, read_line, text_of};
 use ccr_wiretext::read_wiring;
 use ccr_wiring::Wiring;
 use std::alloc::Global;
@@ -132,19 +132,19 @@ fn tell_rows(rt: &HostRuntime, text: &str) -> io::Result<()> {
     let mut start = Start { with: "", past: "" };
     for line in text.split('\n') {
         match read_line(line) {
-            Line::Case(name) => {
+            RowLine::Case(name) => {
                 case = name;
                 start = Start { with: "", past: "" };
             }
-            Line::With(with) => start.with = with,
-            Line::Past(past) => start.past = past,
-            Line::Row(row) => {
+            RowLine::With(with) => start.with = with,
+            RowLine::Past(past) => start.past = past,
+            RowLine::Row(row) => {
                 rows = rows.saturating_add(1);
                 if !is_right(rt, case, start, &row, line)? {
                     wrong = wrong.saturating_add(1);
                 }
             }
-            Line::Nothing => {}
+            RowLine::Nothing => {}
         }
     }
     println!(rt; "{rows} rows, {wrong} wrong")

@@ -12,7 +12,8 @@ use Rattle.atomic_table.specs.Table.{State, Splits, Joins, opening, Final, Seen}
 use Rattle.atomic_table.proofs.Lists.{at_set, set_else, at_longer, at_snoc, at_map}
 use Rattle.ccr_turns.specs.Locks.{IsLeft, Agrees, sifted_of, HasWhole}
 use Rattle.ccr_turns.specs.Seated.{IsLaid, HasCells, Lifted}
-use Rattle.ccr_turns.specs.Lists.{total, below, last_of, Each}
+use Rattle.ccr_turns.specs.Lists.{total, below, last_of}
+use Rattle.ccr_base.specs.Lists.{Each}
 use Rattle.ccr_turns.specs.Logs.{log, fresh, told, FitsLog}
 use Rattle.ccr_turns.specs.Views.{Sat, view, weight, opening_view, first_logs, later_logs, split_left, split_right, joined, spent}
 use Rattle.ccr_turns.specs.Histories.{left_by, Place, entries, history_stamps, keeps, sifted, past, IsRight}

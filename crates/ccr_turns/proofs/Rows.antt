@@ -1,5 +1,5 @@
 -- Lists, weights and places.
-use Rattle.std.proofs.Common.{Bool, true, false, ◌≡◌, ◌≢◌, ℕ, zero, suc, ◌+◌, ◌-◌, ◌*◌, ◌^◌, ◌<◌, ◌≤◌, max, cond, eqb, eq-eqb, ne_eqb, List, [], ◌∷◌, ◌++◌, map, length, get_or, set, sym, refl, ap, ◌∙◌, subst, inl, inr, ◌⊎◌, arith, Some, None}
+use Rattle.std.proofs.Common.{Bool, true, false, ◌≡◌, ◌≢◌, ℕ, zero, suc, ◌+◌, ◌*◌, ◌^◌, ◌<◌, ◌≤◌, max, cond, eqb, eq-eqb, ne_eqb, List, [], ◌∷◌, ◌++◌, map, length, get_or, set, sym, refl, ap, ◌∙◌, subst, inl, inr, ◌⊎◌, arith, Some, None}
 use mathlib.Core.Option.{some, some-injective, some-ne-none}
 use Rattle.std.specs.Prelude.{slice_get, All}
 use Rattle.std.specs.List.{AllZip, count_by, range_with_len}
@@ -12,7 +12,8 @@ use native.Mathlib.Decide.{ℕ_discrete}
 use lib.ListN.{get_elem?}
 use Rattle.ccr_turns.specs.Histories.{history_stamps, left_by, Given, Place, entries}
 use Rattle.ccr_turns.specs.Logs.{log_stamps, Stamped, log_entry, at_place, told}
-use Rattle.ccr_turns.specs.Lists.{total, below, Rises, last_of, Each}
+use Rattle.ccr_turns.specs.Lists.{total, below, Rises, last_of}
+use Rattle.ccr_base.specs.Lists.{Each}
 use Rattle.ccr_turns.specs.declared.history.Held.{Held}
 use Rattle.ccr_turns.specs.declared.history.LogEntry.{LogEntry}
 
@@ -77,10 +78,6 @@ rises_more a (x ∷ xs) y r l = (r.0, rises_more x xs y r.1 l)
 pub last_more : (a : ℕ) (xs : List ℕ) (y : ℕ) → last_of a (xs ++ y ∷ []) ≡ y
 last_more a [] y = refl
 last_more a (x ∷ xs) y = last_more x xs y
-
-pub each_more : {A : Type 0} (P : A → Type 0) (xs : List A) (y : A) → Each P xs → P y → Each P (xs ++ y ∷ [])
-each_more P [] y h p = (p, tt)
-each_more P (x ∷ xs) y h p = (h.0, each_more P xs y h.1 p)
 
 module _ {N X : Type 0} where
   pub stamped_more : (a : ℕ) (ms : List (LogEntry N X)) (m : LogEntry N X) → Stamped a ms → m.stamp ≡ max m.earlier (last_of a (log_stamps ms)) + 1 → Stamped a (ms ++ m ∷ [])

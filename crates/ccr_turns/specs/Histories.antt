@@ -1,10 +1,15 @@
 -- The history of a place.
 use Rattle.std.specs.Prelude.{◌≡◌, Bool, true, ℕ, ◌^◌, ◌<◌, ◌≤◌, List, [], ◌∷◌, map, filter, length}
-use Rattle.ccr_turns.specs.Lists.{total, Rises, last_of, Each}
+use Rattle.ccr_turns.specs.Lists.{total, Rises, last_of}
+use Rattle.ccr_base.specs.Lists.{Each}
 use Rattle.ccr_turns.specs.declared.history.Held.{Held}
 use Rattle.ccr_turns.specs.declared.history.Cell.{Cell}
 use Rattle.ccr_turns.specs.declared.kept.Keep.{Keep}
 use Rattle.ccr_turns.specs.declared.kept.Keep.TheVariants.{Every, Seen}
+
+-- the stamps of entries stay below this, which is far from the greatest of 128 bits
+abbrev pub stamp_limit : ℕ
+stamp_limit = 2 ^ 100
 
 -- the stamps of a history, in its order
 abbrev pub history_stamps : {N : Type 0} → List (Held N) → List ℕ

@@ -1,4 +1,4 @@
--- Facts and sums over lists.
+-- Rising numbers and sums over lists.
 use Rattle.std.specs.Prelude.{ℕ, zero, suc, ◌+◌, ◌<◌, List, [], ◌∷◌}
 
 -- the sum of a weight over a list
@@ -20,8 +20,3 @@ Rises a (x ∷ xs) = (a < x) × Rises x xs
 abbrev pub last_of : ℕ → List ℕ → ℕ
 last_of a [] = a
 last_of a (x ∷ xs) = last_of x xs
-
--- P holds of each element
-abbrev pub Each : {A : Type 0} → (A → Type 0) → List A → Type 0
-Each P [] = Unit {0}
-Each P (x ∷ xs) = P x × Each P xs

@@ -50,7 +50,9 @@ module _ {O A R N X : Type 0} {kept : Ghosts O A R N X} where
 -- The object there had a value that may give this reply and that note to the ask. `Agrees` says which value and which last stamp these are.
 abbrev pub Acts : {N X A R : Type 0} → (X → A → R → N → Type 0) → ℕ → A → R → List (LogEntry N X) → List (LogEntry N X) → Type 0
 Acts {N} {X} may place ask reply old new =
-    (stamp : ℕ) × (note : N) × (before : X) × (earlier : ℕ) × (new ≡ old ++ log_entry place stamp note before earlier ∷ []) × (stamp ≡ max earlier (last_of 0 (log_stamps old)) + 1) × may before ask reply note
+    (stamp : ℕ) × (note : N) × (before : X) × (earlier : ℕ) × (new ≡ old ++ log_entry place stamp note before earlier ∷ [])
+    × (stamp ≡ max earlier (last_of 0 (log_stamps old)) + 1)
+    × may before ask reply note
 
 -- an object and the history of its place, at the close, after this start
 pub record IsLeft {O N X A R : Type 0} (value : O → X) (after : X → N → X) (may : X → A → R → N → Type 0) (seats : ℕ) (start : O) (left : O × List (Held N)) : Type 0 where
@@ -78,7 +80,8 @@ abbrev pub sifted_of : {O N : Type 0} → (N → Bool) → O × List (Held N) �
 sifted_of sees left = (left.0, sifted sees left.1)
 
 -- what was kept at the close is a part of the objects with their whole histories, with which the logs agree
-pub record HasWhole {O N X A R : Type 0} (value : O → X) (after : X → N → X) (may : X → A → R → N → Type 0) (sees : N → Bool) (seats : ℕ) (starts : List O) (logs : List (Log N X)) (kept : List (O × List (Held N))) : Type 0 where
+pub record HasWhole {O N X A R : Type 0} (value : O → X) (after : X → N → X) (may : X → A → R → N → Type 0) (sees : N → Bool)
+    (seats : ℕ) (starts : List O) (logs : List (Log N X)) (kept : List (O × List (Held N))) : Type 0 where
   pub whole : List (O × List (Held N))
   pub objects : AllZip (IsLeft value after may seats) starts whole
   pub agree : All (Agrees value after starts whole) logs

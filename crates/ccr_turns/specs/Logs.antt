@@ -2,7 +2,8 @@
 use Rattle.std.specs.Prelude.{◌≡◌, ℕ, zero, suc, ◌+◌, ◌<◌, ◌≤◌, max, ◌==◌, cond, List, [], ◌∷◌, ◌++◌, map, length}
 use mathlib.Core.Option.{some}
 use lib.ListN.{get_elem?}
-use Rattle.ccr_turns.specs.Lists.{last_of, Each}
+use Rattle.ccr_turns.specs.Lists.{last_of}
+use Rattle.ccr_base.specs.Lists.{Each}
 use Rattle.ccr_turns.specs.Histories.{Place}
 use Rattle.ccr_turns.specs.declared.history.Held.{Held}
 use Rattle.ccr_turns.specs.declared.history.LogEntry.{LogEntry}

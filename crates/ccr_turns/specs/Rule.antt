@@ -4,7 +4,7 @@ use mathlib.Core.Option.{some}
 use lib.ListN.{get_elem?}
 use Rattle.atomic_table.specs.Table.{State}
 use Rattle.ccr_turns.specs.Lists.{total, below}
-use Rattle.ccr_turns.specs.Histories.{left_by, Place, entries, keeps, sifted, past, IsSifted, IsRight}
+use Rattle.ccr_turns.specs.Histories.{left_by, Place, entries, sifted, past, IsSifted, IsRight}
 use Rattle.ccr_turns.specs.Logs.{FitsLog}
 use Rattle.ccr_turns.specs.Views.{weight}
 use Rattle.ccr_turns.specs.declared.history.Cell.{Cell}
@@ -14,7 +14,8 @@ use Rattle.ccr_turns.specs.declared.history.View.{View}
 use Rattle.ccr_turns.specs.declared.kept.Keep.{Keep}
 
 -- the place's slot has of its history what is kept, and the object that it leaves
-pub record IsHome {O N X : Type 0} (value : O → X) (after : X → N → X) (seen : N → Bool) (keep : Keep) (homes : List (mathlib.Core.Option.Option (Option (Cell O N)))) (i : ℕ) (p : Place N X) : Type 0 where
+pub record IsHome {O N X : Type 0} (value : O → X) (after : X → N → X) (seen : N → Bool)
+    (keep : Keep) (homes : List (mathlib.Core.Option.Option (Option (Cell O N)))) (i : ℕ) (p : Place N X) : Type 0 where
   pub cell : Cell O N
   pub at : get_elem? homes i ≡ some (some (Some cell))
   pub history : past cell ≡ p.1
@@ -34,7 +35,8 @@ pub record Holds {N X : Type 0} (after : X → N → X) (keep : Keep) (places : 
 
 -- There are places, a word and a slot for each, which began as the objects. A word is 0 where the lock is free, and then the object is at home; else one seat has the lock.
 -- The histories are right, the logs are made of them, and each seat's number is borne by one log.
-pub record Orderly {O N X A R : Type 0} (value : O → X) (after : X → N → X) (may : X → A → R → N → Type 0) (seen : N → Bool) (keep : Keep) (objects : List O) (seats : ℕ) (s : State (Option (Cell O N)) (View N X)) : Type 0 where
+pub record Orderly {O N X A R : Type 0} (value : O → X) (after : X → N → X) (may : X → A → R → N → Type 0) (seen : N → Bool)
+    (keep : Keep) (objects : List O) (seats : ℕ) (s : State (Option (Cell O N)) (View N X)) : Type 0 where
   pub places : List (Place N X)
   pub same : length s.words ≡ length s.homes
   pub many : length places ≡ length s.homes
@@ -48,7 +50,8 @@ pub record Orderly {O N X A R : Type 0} (value : O → X) (after : X → N → X
   pub numbers : (f : ℕ → ℕ) → total (weight f) s.views ≡ below f seats
 
 -- what the table has come to when all logs are one seat's, which holds nothing
-pub record Settled {O N X A R : Type 0} (value : O → X) (after : X → N → X) (may : X → A → R → N → Type 0) (sees : N → Bool) (objects : List O) (seats : ℕ) (slots : List (Option (Cell O N))) (logs : List (Log N X)) : Type 0 where
+pub record Settled {O N X A R : Type 0} (value : O → X) (after : X → N → X) (may : X → A → R → N → Type 0) (sees : N → Bool)
+    (objects : List O) (seats : ℕ) (slots : List (Option (Cell O N))) (logs : List (Log N X)) : Type 0 where
   pub places : List (Place N X)
   pub most : ℕ
   pub many : length places ≡ length slots

@@ -46,7 +46,7 @@ module _ {O N X : Type 0} where
       × IsSifted seen c
 
 -- a seat with one log has the lock, and the cell has one entry more, which the object gave
-pub record Entry {O N X A R : Type 0} (value : O → X) (after : X → N → X) (may : X → A → R → N → Type 0) (seen : N → Bool) (place : ℕ) (m : Sat O N X) (c : Cell O N) : Type 0 where
+pub record HasNewEntry {O N X A R : Type 0} (value : O → X) (after : X → N → X) (may : X → A → R → N → Type 0) (seen : N → Bool) (place : ℕ) (m : Sat O N X) (c : Cell O N) : Type 0 where
   pub number : ℕ
   pub logged : List (LogEntry N X)
   pub before : List (Held N)
@@ -63,7 +63,10 @@ pub record Entry {O N X A R : Type 0} (value : O → X) (after : X → N → X) 
 -- the seat's log has that entry too
 abbrev pub Entered : {O N X : Type 0} → ℕ → Sat O N X → Cell O N → Sat O N X → Type 0
 Entered {O} {N} {X} place m c n = (n.1 ≡ [])
-    × ((e : Held N) (h : Hold N X) → m.0.hold ≡ Some h → past c ≡ h.history ++ e ∷ [] → n.0 ≡ view (noted m.0.logs (log_entry h.place e.stamp e.note h.now (last_of 0 (history_stamps h.history)))) None)
+    × ((e : Held N) (h : Hold N X)
+    → m.0.hold ≡ Some h
+    → past c ≡ h.history ++ e ∷ []
+    → n.0 ≡ view (noted m.0.logs (log_entry h.place e.stamp e.note h.now (last_of 0 (history_stamps h.history)))) None)
 
 -- the object acted, and the history has one entry more
 abbrev pub Acted : {O N X A R : Type 0} → (O → X) → (X → N → X) → (X → A → R → N → Type 0) → ℕ → ℕ → A → R → Cell O N → Cell O N → Type 0

@@ -11,7 +11,7 @@ use ccr_base::List;
 use std::marker::PhantomData;
 use std::snapshot::Snapshot;
 
-pub type Slot<O> = Option<Cell<O, <O as Kept>::Note>>;
+pub type CellSlot<O> = Option<Cell<O, <O as Kept>::Note>>;
 
 pub type ViewOf<O> = View<<O as Kept>::Note, <O as Kept>::Value>;
 
@@ -27,7 +27,7 @@ pub struct Order<O> {
     of: PhantomData<O>,
 }
 
-impl<O: Kept> TableRule<Slot<O>, ViewOf<O>, Plan<O>> for Order<O> {
+impl<O: Kept> TableRule<CellSlot<O>, ViewOf<O>, Plan<O>> for Order<O> {
     ghost holds = { λ key. Orderly O.value O.after O.may O.seen key.keep key.objects.value key.seats };
 
     ghost first = { λ key. opening_view key.seats };
@@ -38,7 +38,7 @@ pub struct Win<O> {
     of: PhantomData<O>,
 }
 
-impl<O: Kept> Play<Slot<O>, ViewOf<O>> for Win<O> {
+impl<O: Kept> Play<CellSlot<O>, ViewOf<O>> for Win<O> {
     ghost then = { won O.value O.seen };
 }
 
@@ -47,7 +47,7 @@ pub struct Leave<O> {
     of: PhantomData<O>,
 }
 
-impl<O: Kept> Play<Slot<O>, ViewOf<O>> for Leave<O> {
+impl<O: Kept> Play<CellSlot<O>, ViewOf<O>> for Leave<O> {
     ghost then = { left };
 }
 
@@ -56,7 +56,7 @@ pub struct Enter<O> {
     of: PhantomData<O>,
 }
 
-impl<O: Kept> Play<Slot<O>, ViewOf<O>> for Enter<O> {
+impl<O: Kept> Play<CellSlot<O>, ViewOf<O>> for Enter<O> {
     ghost then = { entered };
 }
 

@@ -1,17 +1,9 @@
 -- What holds of each item of a list.
-use Rattle.std.proofs.Common.{◌≡◌, Bool, true, false, List, [], ◌∷◌, ◌++◌, refl}
-use Rattle.std.specs.Prelude.{◌&&◌, ◌||◌}
+use Rattle.std.proofs.Common.{◌≡◌, Bool, false, List, [], ◌∷◌, ◌++◌, refl}
 use Rattle.std.specs.List.{list_any}
 pub use Rattle.std.proofs.lemmas.Bool.{and_parts as both}
 pub use Rattle.std.proofs.lemmas.Bool.{or_parts as neither}
-
-abbrev pub Each : {X : Type 0} → (X → Type 0) → List X → Type 0
-Each P [] = Unit {0}
-Each P (x ∷ xs) = P x × Each P xs
-
-pub each_push : {X : Type 0} (P : X → Type 0) (xs : List X) (x : X) → Each P xs → P x → Each P (xs ++ x ∷ [])
-each_push P [] x each here = (here, tt)
-each_push P (y ∷ ys) x each here = (each.0, each_push P ys x each.1 here)
+use Rattle.ccr_base.specs.Lists.{Each}
 
 pub each_more : {X : Type 0} (P Q : X → Type 0) → ((x : X) → P x → Q x) → (xs : List X) → Each P xs → Each Q xs
 each_more P Q more [] each = tt
@@ -24,10 +16,6 @@ each_false P f test (x ∷ xs) each = rw (test x each.0, each_false P f test xs 
 pub each_insert : {X : Type 0} (P : X → Type 0) (xs ys : List X) (x : X) → Each P (xs ++ ys) → P x → Each P (xs ++ x ∷ ys)
 each_insert P [] ys x each here = (here, each)
 each_insert P (y ∷ xs) ys x each here = (each.0, each_insert P xs ys x each.1 here)
-
-pub none_passes : {X : Type 0} (f : X → Bool) → ((x : X) → f x ≡ false) → (xs : List X) → list_any f xs ≡ false
-none_passes f none [] = refl
-none_passes f none (x ∷ xs) = rw (none x, none_passes f none xs) refl
 
 pub none_inserted : {X : Type 0} (f : X → Bool) (xs ys : List X) (x : X) → list_any f (xs ++ ys) ≡ false → f x ≡ false → list_any f (xs ++ x ∷ ys) ≡ false
 none_inserted f [] ys x none here = rw (here, none) refl

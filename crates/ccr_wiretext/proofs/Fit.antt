@@ -20,9 +20,10 @@ use Rattle.ccr_wiring.specs.declared.parts.ArbiterPart.{ArbiterPart}
 use Rattle.ccr_wiring.specs.declared.parts.PosterPart.{PosterPart}
 use Rattle.ccr_wiring.specs.declared.parts.DomainPart.{DomainPart}
 use Rattle.ccr_wiring.specs.Groups.{may_have, is_receive, is_interleave, is_one_named}
-use Rattle.ccr_wiring.specs.Repeats.{are_apart, slot_ports}
+use Rattle.ccr_wiring.specs.Repeats.{slot_ports}
 use Rattle.ccr_wiring.specs.Versions.{is_long}
-use Rattle.ccr_wiretext.proofs.Each.{Each, each_more}
+use Rattle.ccr_wiretext.proofs.Each.{each_more}
+use Rattle.ccr_base.specs.Lists.{Each, are_apart}
 
 abbrev pub PolicyFit : Policy → Type 0
 PolicyFit policies.Unbounded = Unit {0}

@@ -1,6 +1,7 @@
 pub mod Slots
 pub mod Rooms
 pub mod Written
+pub mod PartsPut
 pub mod ReadTellsSteps
 pub mod Each
 pub mod ValuesRead

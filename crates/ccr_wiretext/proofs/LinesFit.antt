@@ -16,6 +16,7 @@ use Rattle.ccr_base.specs.declared.patterns.Pattern.{Pattern}
 use Rattle.ccr_base.specs.declared.patterns.Pattern.TheVariants as patterns
 use Rattle.ccr_base.proofs.Options.{some_then}
 use Rattle.ccr_base.proofs.Booleans.{eq_turned, not_true}
+use Rattle.ccr_base.proofs.Lists.{none_of_both}
 use Rattle.ccr_text.specs.Names.{meaning_of}
 use Rattle.ccr_text.specs.Fields.{Words}
 use Rattle.ccr_wiring.specs.declared.parts.Parts.{Parts}
@@ -24,7 +25,7 @@ use Rattle.ccr_wiring.specs.declared.parts.DomainPart.{DomainPart}
 use Rattle.ccr_wiring.specs.declared.parts.Kind.{Kind}
 use Rattle.ccr_wiring.specs.declared.parts.Kind.TheVariants as arbiters
 use Rattle.ccr_wiring.specs.Groups.{may_have}
-use Rattle.ccr_wiring.specs.Repeats.{has_port, are_apart, slot_ports, members_in_all}
+use Rattle.ccr_wiring.specs.Repeats.{slot_ports, members_in_all}
 use Rattle.ccr_wiring.specs.Versions.{is_long}
 use Rattle.ccr_wiring.proofs.Apart.{apart_snoc}
 use Rattle.ccr_wiretext.specs.declared.keyword.Keyword.{Keyword}
@@ -37,7 +38,8 @@ use Rattle.ccr_wiretext.specs.Grammar.{Refers, IsPort, IsPolicy, IsValueWord, Is
 use Rattle.ccr_wiretext.specs.Patterns.{is_combined}
 use Rattle.ccr_wiretext.specs.Blocks.{group_of}
 use Rattle.ccr_wiretext.specs.Lines.{IsAction, IsBranchTail}
-use Rattle.ccr_wiretext.proofs.Each.{Each, neither}
+use Rattle.ccr_wiretext.proofs.Each.{neither}
+use Rattle.ccr_base.specs.Lists.{Each, has_number, are_apart}
 use Rattle.ccr_wiretext.proofs.Fit.{PolicyFit, OldFit, ExprFit, PortsFit, ActionFit, SlotFit, PatternFit, BranchFit, InterleaveFit}
 use Rattle.ccr_wiretext.proofs.NamesApart.{named_each}
 use Rattle.ccr_wiretext.proofs.Sound.{KindFit}
@@ -133,23 +135,19 @@ pub members_fit : (draft : Declared) (handlers : ℕ) → Known draft.parts hand
     → PortsFit (length draft.parts.ports) ports × (are_apart ports ≡ true)
 members_fit draft handlers known ports words said = ports_fit draft handlers known [] ports words refl said
 
-any_on : (f : ℕ → Bool) (xs ys : List ℕ) → list_any f xs ≡ false → list_any f ys ≡ false → list_any f (xs ++ ys) ≡ false
-any_on f [] ys first second = second
-any_on f (x ∷ xs) ys first second = let parts = neither (f x) (list_any f xs) first in rw (parts.0, any_on f xs ys parts.1 second) refl
-
 -- what no domain has is none of all members
-free_all : (domains : List DomainPart) (n : ℕ) → is_combined domains n ≡ false → has_port (members_in_all domains) n ≡ false
+free_all : (domains : List DomainPart) (n : ℕ) → is_combined domains n ≡ false → has_number (members_in_all domains) n ≡ false
 free_all [] n free = refl
 free_all (domain ∷ domains) n free =
-    let parts = neither (has_port domain.members n) (is_combined domains n) free in
-    any_on (λ other. other == n) domain.members (members_in_all domains) parts.0 (free_all domains n parts.1)
+    let parts = neither (has_number domain.members n) (is_combined domains n) free in
+    none_of_both (λ other. other == n) domain.members (members_in_all domains) parts.0 (free_all domains n parts.1)
 
 pub interleaves_fit : (draft : Declared) (found members : List ℕ) (words : Words) → are_apart (members_in_all draft.parts.domains ++ found) ≡ true → AreInterleaves draft found members words
     → Each (InterleaveFit draft.parts.arbiters) members × (are_apart (members_in_all draft.parts.domains ++ (found ++ members)) ≡ true)
 interleaves_fit draft found [] words apart said = (tt, rw (append-nil found) apart)
 interleaves_fit draft found (n ∷ members) words apart said =
     let earlier : List ℕ = members_in_all draft.parts.domains in
-    let new : has_port (earlier ++ found) n ≡ false = any_on (λ other. other == n) earlier found (free_all draft.parts.domains n said.4) said.5 in
+    let new : has_number (earlier ++ found) n ≡ false = none_of_both (λ other. other == n) earlier found (free_all draft.parts.domains n said.4) said.5 in
     let next : are_apart (earlier ++ (found ++ n ∷ [])) ≡ true = subst (λ all. are_apart all ≡ true) (append_assoc earlier found (n ∷ [])) (apart_snoc (earlier ++ found) n apart new) in
     let rest = interleaves_fit draft (found ++ n ∷ []) members said.1 next said.6 in
     ((said.3.1, rest.0), subst (λ all. are_apart (earlier ++ all) ≡ true) (append_assoc found (n ∷ []) members) rest.1)
@@ -165,7 +163,7 @@ pub causes_fit : (draft : Declared) (handlers : ℕ) → Known draft.parts handl
     → PortsFit (length draft.parts.causes) causes × (are_apart causes ≡ true)
 causes_fit draft handlers known causes words said = causes_go draft handlers known [] causes words refl said
 
-pub same_ports : (found : List Slot) (port : ℕ) → list_any (λ other. other.port == port) found ≡ has_port (slot_ports found) port
+pub same_ports : (found : List Slot) (port : ℕ) → list_any (λ other. other.port == port) found ≡ has_number (slot_ports found) port
 same_ports [] port = refl
 same_ports (slot ∷ found) port = ap (λ t. (slot.port == port) || t) (same_ports found port)
 

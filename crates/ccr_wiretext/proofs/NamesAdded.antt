@@ -2,6 +2,7 @@
 use Rattle.std.proofs.Common.{◌≡◌, ℕ, ◌+◌, ◌≤◌, false, List, [], ◌∷◌, ◌++◌, length, map, refl, sym, ap, subst, ◌∙◌, arith, append_assoc, append-nil}
 use Rattle.std.specs.Prelude.{sum, flat_map}
 use Rattle.std.proofs.lemmas.List.Sums.{sum_by-append}
+use Rattle.ccr_base.proofs.Lists.{flat_push}
 use Rattle.ccr_wiring.specs.declared.parts.Parts.{Parts}
 use Rattle.ccr_wiring.specs.declared.parts.SetPart.{SetPart}
 use Rattle.ccr_wiring.specs.declared.parts.CausePart.{CausePart}
@@ -33,10 +34,6 @@ sum_push f xs x =
     let split : sum (map f xs ++ f x ∷ []) ≡ sum (map f xs) + sum (f x ∷ []) = sum_by-append (λ n. n) (map f xs) (f x ∷ []) in
     let one : sum (f x ∷ []) ≡ f x = omega arith in
     rw (map_snoc f xs x) (omega (arith, split, one))
-
-pub flat_push : {X Y : Type 0} (f : X → List Y) (xs : List X) (x : X) → flat_map f (xs ++ x ∷ []) ≡ flat_map f xs ++ f x
-flat_push f [] x = append-nil (f x)
-flat_push f (y ∷ ys) x = rw (flat_push f ys x) (sym (append_assoc (f y) (flat_map f ys) (f x)))
 
 -- what is there stays there
 kind_more : (old new : Parts) (h i : ℕ) → length old.queues ≤ length new.queues → length old.ports ≤ length new.ports → length old.causes ≤ length new.causes → h ≤ i → (what : Named) → KindFit old h what → KindFit new i what

@@ -8,7 +8,8 @@ use Rattle.ccr_wiring.specs.Names.{has_name, has_repeated}
 use Rattle.ccr_wiretext.specs.declared.named.Named.{Named}
 use Rattle.ccr_wiretext.specs.Names.{Naming}
 use Rattle.ccr_wiretext.specs.Grammar.{IsNew}
-use Rattle.ccr_wiretext.proofs.Each.{Each, each_insert, neither, none_inserted}
+use Rattle.ccr_wiretext.proofs.Each.{each_insert, neither, none_inserted}
+use Rattle.ccr_base.specs.Lists.{Each}
 
 differ_back : (a b : List ℕ) → bytes_eq a b ≡ false → bytes_eq b a ≡ false
 differ_back a b e = by (bytes_eq b a) refl

@@ -27,6 +27,7 @@ use Rattle.ccr_wiring.specs.Limits.{policy_is_outside, expr_is_outside, action_i
 use Rattle.ccr_wiring.specs.Versions.{is_long, expr_is_newer, action_is_newer, handler_is_newer, poster_is_newer, has_newer}
 use Rattle.ccr_wiring.specs.Spots.{times, named_ports, has_crowded_port}
 use Rattle.ccr_wiring.specs.Codes.{code_of}
+use Rattle.ccr_wiring.proofs.Lists.{any_none}
 use Rattle.ccr_text.specs.Words.{is_name_of}
 use Rattle.ccr_text.specs.declared.lines.Line.{Line}
 use Rattle.ccr_text.specs.Lines.{lines_of}
@@ -37,7 +38,8 @@ use Rattle.ccr_wiretext.specs.Keywords.{keyword}
 use Rattle.ccr_wiretext.specs.Drafts.{Declared, nothing}
 use Rattle.ccr_wiretext.specs.Reading.{version_word, version_of}
 use Rattle.ccr_wiretext.specs.Lines.{AreLines, AreHeadedLines, IsText}
-use Rattle.ccr_wiretext.proofs.Each.{Each, each_false, none_passes}
+use Rattle.ccr_wiretext.proofs.Each.{each_false}
+use Rattle.ccr_base.specs.Lists.{Each}
 use Rattle.ccr_wiretext.proofs.Fit.{PolicyFit, OldFit, ExprFit, ActionFit, SlotFit, PatternFit, BranchFit, ArbiterFit, Shaped, SetFit, HandlerFit, PostFit, PosterFit, InterleaveFit, DomainFit}
 use Rattle.ccr_wiretext.proofs.SpotCounts.{Uncrowded}
 use Rattle.ccr_wiretext.proofs.Sound.{Counts, Fits, Sound, is_cause_fit}
@@ -206,7 +208,7 @@ arbiter_branched queues handlers ports part (branches, inr (kind, some)) = rw (k
 uncrowded_parts : (parts : Parts) (spotted : List ℕ) → spotted ≡ named_ports parts ++ [] → Uncrowded spotted → has_crowded_port parts ≡ false
 uncrowded_parts parts spotted spots uncrowded =
     let fine : Uncrowded (named_ports parts) = subst Uncrowded (spots ∙ append-nil (named_ports parts)) uncrowded in
-    none_passes (λ port. nat_lt 16 (times port (named_ports parts))) (λ port. within 16 (times port (named_ports parts)) (fine port)) (named_ports parts)
+    any_none (λ port. nat_lt 16 (times port (named_ports parts))) (named_ports parts) (λ port. within 16 (times port (named_ports parts)) (fine port))
 
 sound_parts : (parts : Parts) (names : Naming) (spotted : List ℕ) → Sound parts names spotted blocks.Outside → code_of parts ≡ None
 unfolding code_of

@@ -11,9 +11,9 @@ use Rattle.ccr_base.specs.declared.patterns.Pattern.{Pattern}
 use Rattle.ccr_base.specs.declared.patterns.Pattern.TheVariants as patterns
 use Rattle.ccr_base.proofs.Texts.{same_word}
 use Rattle.ccr_base.proofs.Booleans.{not_true, chosen}
+use Rattle.ccr_base.specs.Lists.{has_number}
 use Rattle.ccr_text.specs.Names.{meaning_of}
 use Rattle.ccr_text.specs.Fields.{Words, ◌>>=◌, unless, or_code, no_more, number, number_within}
-use Rattle.ccr_wiring.specs.Repeats.{has_port}
 use Rattle.ccr_wiretext.specs.Names.{Naming, as_cause}
 use Rattle.ccr_wiretext.specs.Drafts.{Declared}
 use Rattle.ccr_wiretext.specs.Fields.{port, interleave}
@@ -121,16 +121,16 @@ slots_read draft (suc room) found (s ∷ more) words said few =
 
 -- one port more
 pub new_port_said : (draft : Declared) (found : List ℕ) (words : Words) (x : ℕ × Words) → new_port draft found words ≡ Ok x
-    → (word : List ℕ) × (words ≡ word ∷ x.1) × IsPort draft word x.0 × (has_port found x.0 ≡ false)
+    → (word : List ℕ) × (words ≡ word ∷ x.1) × IsPort draft word x.0 × (has_number found x.0 ≡ false)
 unfolding new_port
 new_port_said draft found words x e =
-    let to = bind_ok (port draft words) (λ next. unless (not (has_port found next.0)) 8 >>= λ apart. Ok next) x e in
-    let apart = bind_ok (unless (not (has_port found to.0.0)) 8) (λ apart. Ok to.0) x to.2 in
+    let to = bind_ok (port draft words) (λ next. unless (not (has_number found next.0)) 8 >>= λ apart. Ok next) x e in
+    let apart = bind_ok (unless (not (has_number found to.0.0)) 8) (λ apart. Ok to.0) x to.2 in
     let said = port_said draft words to.0 to.1 in
-    subst (λ (y : ℕ × Words). (word : List ℕ) × (words ≡ word ∷ y.1) × IsPort draft word y.0 × (has_port found y.0 ≡ false)) (ok_is to.0 x apart.2)
+    subst (λ (y : ℕ × Words). (word : List ℕ) × (words ≡ word ∷ y.1) × IsPort draft word y.0 × (has_number found y.0 ≡ false)) (ok_is to.0 x apart.2)
     (said.0, said.1, said.2, not_true _ (unless_ok _ 8 apart.0 apart.1))
 
-pub new_port_read : (draft : Declared) (found : List ℕ) (word : List ℕ) (n : ℕ) (rest : Words) → IsPort draft word n → has_port found n ≡ false → new_port draft found (word ∷ rest) ≡ Ok (n, rest)
+pub new_port_read : (draft : Declared) (found : List ℕ) (word : List ℕ) (n : ℕ) (rest : Words) → IsPort draft word n → has_number found n ≡ false → new_port draft found (word ∷ rest) ≡ Ok (n, rest)
 unfolding new_port
 new_port_read draft found word n rest said apart = rw (port_read draft word n rest said, apart) refl
 
@@ -187,7 +187,7 @@ gathered_said draft words p e =
 gathered_read : (draft : Declared) (words : Words) (total first second : ℕ) → IsGather draft words total first second → gathered draft words ≡ Ok (patterns.Gather total first second)
 unfolding gathered
 gathered_read draft words total first second said =
-    let apart : has_port (first ∷ []) second ≡ false = rw said.apart refl in
+    let apart : has_number (first ∷ []) second ≡ false = rw said.apart refl in
     rw (said.spelled, within_read 1 1000 said.count total (said.one ∷ said.other ∷ []) said.counted, port_read draft said.one first (said.other ∷ []) said.refers, new_port_read draft (first ∷ []) said.other second [] said.other_refers apart) refl
 
 -- PATTERN
@@ -248,17 +248,17 @@ all_members_read draft words (n ∷ more) said some few =
 
 -- one Interleave more
 new_member_said : (draft : Declared) (found : List ℕ) (words : Words) (x : ℕ × Words) → new_member draft found words ≡ Ok x
-    → (word : List ℕ) × (words ≡ word ∷ x.1) × IsInterleave draft word x.0 × (is_combined draft.parts.domains x.0 ≡ false) × (has_port found x.0 ≡ false)
+    → (word : List ℕ) × (words ≡ word ∷ x.1) × IsInterleave draft word x.0 × (is_combined draft.parts.domains x.0 ≡ false) × (has_number found x.0 ≡ false)
 unfolding new_member
 new_member_said draft found words x e =
-    let to = bind_ok (interleave draft words) (λ next. unless (not (is_combined draft.parts.domains next.0 || has_port found next.0)) 8 >>= λ apart. Ok next) x e in
-    let apart = bind_ok (unless (not (is_combined draft.parts.domains to.0.0 || has_port found to.0.0)) 8) (λ apart. Ok to.0) x to.2 in
+    let to = bind_ok (interleave draft words) (λ next. unless (not (is_combined draft.parts.domains next.0 || has_number found next.0)) 8 >>= λ apart. Ok next) x e in
+    let apart = bind_ok (unless (not (is_combined draft.parts.domains to.0.0 || has_number found to.0.0)) 8) (λ apart. Ok to.0) x to.2 in
     let said = interleave_said draft words to.0 to.1 in
-    let new = neither (is_combined draft.parts.domains to.0.0) (has_port found to.0.0) (not_true _ (unless_ok _ 8 apart.0 apart.1)) in
-    subst (λ (y : ℕ × Words). (word : List ℕ) × (words ≡ word ∷ y.1) × IsInterleave draft word y.0 × (is_combined draft.parts.domains y.0 ≡ false) × (has_port found y.0 ≡ false)) (ok_is to.0 x apart.2)
+    let new = neither (is_combined draft.parts.domains to.0.0) (has_number found to.0.0) (not_true _ (unless_ok _ 8 apart.0 apart.1)) in
+    subst (λ (y : ℕ × Words). (word : List ℕ) × (words ≡ word ∷ y.1) × IsInterleave draft word y.0 × (is_combined draft.parts.domains y.0 ≡ false) × (has_number found y.0 ≡ false)) (ok_is to.0 x apart.2)
     (said.0, said.1, said.2, new.0, new.1)
 
-new_member_read : (draft : Declared) (found : List ℕ) (word : List ℕ) (n : ℕ) (rest : Words) → IsInterleave draft word n → is_combined draft.parts.domains n ≡ false → has_port found n ≡ false
+new_member_read : (draft : Declared) (found : List ℕ) (word : List ℕ) (n : ℕ) (rest : Words) → IsInterleave draft word n → is_combined draft.parts.domains n ≡ false → has_number found n ≡ false
     → new_member draft found (word ∷ rest) ≡ Ok (n, rest)
 unfolding new_member
 new_member_read draft found word n rest said free new = rw (interleave_read draft word n rest said, free, new) refl
@@ -311,8 +311,8 @@ pub causes_said : (names : Naming) (found : List ℕ) (words : Words) (all : Lis
 unfolding causes
 causes_said names found [] all e = ([], sym (ok_is found all e) ∙ sym (append-nil found), refl)
 causes_said names found (w ∷ words) all e =
-    let cause = bind_ok (or_code (option_and_then as_cause (meaning_of names w)) 7) (λ cause. unless (not (has_port found cause)) 8 >>= λ apart. causes names (found ++ cause ∷ []) words) all e in
-    let apart = bind_ok (unless (not (has_port found cause.0)) 8) (λ apart. causes names (found ++ cause.0 ∷ []) words) all cause.2 in
+    let cause = bind_ok (or_code (option_and_then as_cause (meaning_of names w)) 7) (λ cause. unless (not (has_number found cause)) 8 >>= λ apart. causes names (found ++ cause ∷ []) words) all e in
+    let apart = bind_ok (unless (not (has_number found cause.0)) 8) (λ apart. causes names (found ++ cause.0 ∷ []) words) all cause.2 in
     let rest = causes_said names (found ++ cause.0 ∷ []) words all apart.2 in (
       cause.0 ∷ rest.0,
       rest.1 ∙ append_assoc found (cause.0 ∷ []) rest.0,

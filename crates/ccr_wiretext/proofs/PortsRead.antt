@@ -7,9 +7,9 @@ use Rattle.std.proofs.lemmas.Bool.Decides.{nat_tests}
 use Rattle.std.proofs.Math.Seq.{take-append_seam}
 use Rattle.ccr_base.proofs.Options.{some_then}
 use Rattle.ccr_base.proofs.Booleans.{chosen}
+use Rattle.ccr_base.specs.Lists.{has_number}
 use Rattle.ccr_text.specs.Names.{meaning_of}
 use Rattle.ccr_text.specs.Fields.{Words, or_code, word}
-use Rattle.ccr_wiring.specs.Repeats.{has_port}
 use Rattle.ccr_wiretext.specs.Names.{as_port, as_set}
 use Rattle.ccr_wiretext.specs.Drafts.{Declared, members_of}
 use Rattle.ccr_wiretext.specs.Fields.{slash_index, member, set_port, port_at, port_of, port}
@@ -104,7 +104,7 @@ port_is draft word n e = by (slash_index word) refl e
         let other = some_then (member draft set.0) (option_and_then as_port (meaning_of draft.names (drop (place + 1) word))) n set.2 in
         let front : take place word ≡ cut.0.set = ap (λ k. take k word) cut.1 ∙ ap (take (length cut.0.set)) cut.0.spelled ∙ take-append_seam cut.0.set (47 ∷ cut.0.name) in
         let behind : drop (place + 1) word ≡ cut.0.name = ap (λ k. drop (k + 1) word) cut.1 ∙ ap (drop (length cut.0.set + 1)) cut.0.spelled ∙ drop_front cut.0.set cut.0.name in
-        elim (chosen (has_port (members_of draft set.0) other.0) (Some other.0) None (Some n) other.2) [
+        elim (chosen (has_number (members_of draft set.0) other.0) (Some other.0) None (Some n) other.2) [
           | inl is ↦
               let same : other.0 ≡ n = (let s : Some other.0 ≡ Some n = is.1 in cc) in
               inr (record {
@@ -115,7 +115,7 @@ port_is draft word n e = by (slash_index word) refl e
                 number = set.0;
                 in_set = subst (λ w. option_and_then as_set (meaning_of draft.names w) ≡ Some set.0) front set.1;
                 in_names = subst (λ w. option_and_then as_port (meaning_of draft.names w) ≡ Some n) behind (other.1 ∙ ap Some same);
-                member = subst (λ p. has_port (members_of draft set.0) p ≡ true) same is.0;
+                member = subst (λ p. has_number (members_of draft set.0) p ≡ true) same is.0;
               })
           | inr is ↦ absurd (let s : None ≡ Some n = is.1 in cc)
         ]

@@ -9,7 +9,7 @@ use Rattle.ccr_wiring.specs.declared.parts.ArbiterPart.{ArbiterPart}
 use Rattle.ccr_wiring.specs.declared.parts.PosterPart.{PosterPart}
 use Rattle.ccr_wiring.specs.declared.parts.DomainPart.{DomainPart}
 use Rattle.ccr_wiring.specs.Groups.{is_receive}
-use Rattle.ccr_wiring.specs.Repeats.{are_apart, members_in_all}
+use Rattle.ccr_wiring.specs.Repeats.{members_in_all}
 use Rattle.ccr_wiring.specs.Versions.{has_strange_version}
 use Rattle.ccr_wiring.specs.Names.{declared_names}
 use Rattle.ccr_wiring.specs.Spots.{branches_named, named_ports}
@@ -19,7 +19,9 @@ use Rattle.ccr_wiretext.specs.declared.draft.Block.{Block}
 use Rattle.ccr_wiretext.specs.declared.draft.Block.TheVariants as blocks
 use Rattle.ccr_wiretext.specs.Names.{Naming}
 use Rattle.ccr_wiretext.specs.Drafts.{branch_count, script_count}
-use Rattle.ccr_wiretext.proofs.Each.{Each, each_push, each_more}
+use Rattle.ccr_wiretext.proofs.Each.{each_more}
+use Rattle.ccr_base.proofs.Lists.{each_push}
+use Rattle.ccr_base.specs.Lists.{Each, are_apart}
 use Rattle.ccr_wiretext.proofs.Fit.{PolicyFit, SetFit, HandlerFit, BranchesFit, ArbiterFit, PosterFit, DomainFit, set_more, handler_more, arbiter_more, poster_more, domain_more}
 use Rattle.ccr_wiretext.proofs.NamesApart.{NamesApart}
 use Rattle.ccr_wiretext.proofs.SpotCounts.{Uncrowded}

@@ -6,6 +6,7 @@ use Rattle.ccr_base.specs.declared.policies.Group.{Group}
 use Rattle.ccr_base.specs.declared.handlers.Action.{Action}
 use Rattle.ccr_base.specs.declared.messages.Sent.{Sent}
 use Rattle.ccr_base.proofs.Texts.{same_text}
+use Rattle.ccr_base.proofs.Lists.{flat_push}
 use Rattle.ccr_text.specs.Fields.{Words}
 use Rattle.ccr_wiring.specs.declared.parts.Parts.{Parts}
 use Rattle.ccr_wiring.specs.declared.parts.SetPart.{SetPart}
@@ -19,7 +20,7 @@ use Rattle.ccr_wiring.specs.declared.parts.DomainPart.{DomainPart}
 use Rattle.ccr_wiring.specs.declared.parts.Kind.{Kind}
 use Rattle.ccr_wiring.specs.declared.parts.Kind.TheVariants as arbiters
 use Rattle.ccr_wiring.specs.Groups.{is_receive, may_have}
-use Rattle.ccr_wiring.specs.Repeats.{are_apart, members_in_all}
+use Rattle.ccr_wiring.specs.Repeats.{members_in_all}
 use Rattle.ccr_wiring.specs.Spots.{branch_named, branches_named, named_ports}
 use Rattle.ccr_wiretext.specs.declared.keyword.Keyword.{Keyword}
 use Rattle.ccr_wiretext.specs.declared.keyword.Keyword.TheVariants as keywords
@@ -31,12 +32,13 @@ use Rattle.ccr_wiretext.specs.Names.{Naming}
 use Rattle.ccr_wiretext.specs.Drafts.{Declared, receiver}
 use Rattle.ccr_wiretext.specs.Blocks.{group_of, apart}
 use Rattle.ccr_wiretext.specs.Lines.{IsBudget, IsQueue, IsName, IsSet, IsCause, IsCombine, IsReceive, IsBranch, IsAction, IsPost, SaysOutside, SaysInPoster, Says}
-use Rattle.ccr_wiretext.proofs.Each.{each_push}
+use Rattle.ccr_base.proofs.Lists.{each_push}
+use Rattle.ccr_base.specs.Lists.{are_apart}
 use Rattle.ccr_wiretext.proofs.Fit.{ActionFit, BranchFit, PostFit}
 use Rattle.ccr_wiretext.proofs.SpotCounts.{uncrowded_more, arbiters_same}
 use Rattle.ccr_wiretext.proofs.Sound.{KindFit, Sound, queue_fits, port_fits, set_fits, cause_fits, handler_fits, arbiter_fits, poster_fits, domain_fits}
 use Rattle.ccr_wiretext.proofs.LinesFit.{policy_fit, members_fit, causes_fit, branch_fit, action_fit, value_fit, interleaves_fit, port_there, receive_group, group_may}
-use Rattle.ccr_wiretext.proofs.NamesAdded.{sum_push, flat_push, known_more, queue_adds, port_adds, set_adds, cause_adds, handler_adds, arbiter_adds, branch_adds, poster_adds, names_same, posters_same}
+use Rattle.ccr_wiretext.proofs.NamesAdded.{sum_push, known_more, queue_adds, port_adds, set_adds, cause_adds, handler_adds, arbiter_adds, branch_adds, poster_adds, names_same, posters_same}
 
 -- the ports that an arbiter's spots name
 abbrev arbiter_named : Parts → ArbiterPart → List ℕ

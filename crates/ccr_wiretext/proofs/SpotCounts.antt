@@ -13,7 +13,8 @@ use Rattle.ccr_wiring.specs.Groups.{may_have}
 use Rattle.ccr_wiring.specs.Spots.{branch_named, branches_named, arbiters_named, times}
 use Rattle.ccr_wiretext.specs.Drafts.{Declared}
 use Rattle.ccr_wiretext.specs.Forms.{crowds}
-use Rattle.ccr_wiretext.proofs.Each.{Each, neither}
+use Rattle.ccr_wiretext.proofs.Each.{neither}
+use Rattle.ccr_base.specs.Lists.{Each}
 use Rattle.ccr_wiretext.proofs.Fit.{BranchFit, ArbiterFit}
 
 -- ---- handlers behind those that a branch refers to change nothing

@@ -1,5 +1,6 @@
 -- Which first words may stand in which block, and what is declared after such a line. Another first word is code 3.
 use Rattle.std.specs.Prelude.{ℕ, length, Option, Some, None, Result, Ok, Err}
+use Rattle.ccr_base.specs.Bounds.{most_arbiters, most_handlers, most_ports, most_posters}
 use Rattle.ccr_base.specs.declared.policies.Group.{Group}
 use Rattle.ccr_base.specs.declared.policies.Group.TheVariants as groups
 use Rattle.ccr_base.specs.declared.handlers.Action.TheVariants as actions
@@ -19,15 +20,15 @@ use Rattle.ccr_wiretext.specs.Forms.{budget_form, queue_form, name_form, set_for
 unfoldable pub outside_line : Declared → Keyword → Words → Result Declared ℕ
 outside_line draft keywords.Budget words = budget_form draft words >>= λ budget. Ok (with_budget draft budget)
 outside_line draft keywords.Queue words = queue_form draft words >>= λ part. Ok (with_queue draft part)
-outside_line draft keywords.Port words = name_form 256 (length draft.parts.ports) draft words >>= λ name. Ok (with_port draft name)
+outside_line draft keywords.Port words = name_form most_ports (length draft.parts.ports) draft words >>= λ name. Ok (with_port draft name)
 outside_line draft keywords.Portset words = set_form draft words >>= λ part. Ok (with_set draft part)
 outside_line draft keywords.Cause words = cause_form draft words >>= λ part. Ok (with_cause draft part)
-outside_line draft keywords.Handler words = name_form 256 (length draft.parts.handlers) draft words >>= λ name. Ok (with_handler draft name)
+outside_line draft keywords.Handler words = name_form most_handlers (length draft.parts.handlers) draft words >>= λ name. Ok (with_handler draft name)
 outside_line draft keywords.Receive words = receive_form draft words >>= λ branch. Ok (with_receive draft branch)
-outside_line draft keywords.Choice words = name_form 256 (length draft.parts.arbiters) draft words >>= λ name. Ok (with_arbiter draft arbiters.Choice name)
-outside_line draft keywords.Interleave words = name_form 256 (length draft.parts.arbiters) draft words >>= λ name. Ok (with_arbiter draft arbiters.Interleave name)
+outside_line draft keywords.Choice words = name_form most_arbiters (length draft.parts.arbiters) draft words >>= λ name. Ok (with_arbiter draft arbiters.Choice name)
+outside_line draft keywords.Interleave words = name_form most_arbiters (length draft.parts.arbiters) draft words >>= λ name. Ok (with_arbiter draft arbiters.Interleave name)
 outside_line draft keywords.Combine words = combine_form draft words >>= λ part. Ok (with_domain draft part)
-outside_line draft keywords.Poster words = name_form 16 (length draft.parts.posters) draft words >>= λ name. Ok (with_poster draft name)
+outside_line draft keywords.Poster words = name_form most_posters (length draft.parts.posters) draft words >>= λ name. Ok (with_poster draft name)
 outside_line draft _ words = Err 3
 
 unfoldable pub handler_line : Declared → HandlerPart → Keyword → Words → Result Declared ℕ

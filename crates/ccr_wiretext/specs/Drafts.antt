@@ -2,6 +2,7 @@
 use Rattle.std.specs.Prelude.{ℕ, Bool, true, false, List, [], ◌∷◌, ◌++◌, length, map, sum}
 use Rattle.std.specs.List.{slice_get}
 use Rattle.std.specs.Option.{option_map_or}
+use Rattle.ccr_base.specs.Bounds.{most_task_posts}
 use Rattle.ccr_base.specs.declared.handlers.Action.{Action}
 use Rattle.ccr_base.specs.declared.messages.Sent.{Sent}
 use Rattle.ccr_wiring.specs.declared.parts.Parts.{Parts}
@@ -35,7 +36,7 @@ pub record Declared : Type 0 where
 -- before the first declaration, by the version
 abbrev pub nothing : ℕ → Declared
 nothing version = record {
-  parts = record { version = version; budget = 10000; queues = []; ports = []; sets = []; causes = []; handlers = []; arbiters = []; domains = []; posters = [] };
+  parts = record { version = version; budget = most_task_posts; queues = []; ports = []; sets = []; causes = []; handlers = []; arbiters = []; domains = []; posters = [] };
   budgeted = false;
   names = [];
   spotted = [];

@@ -1,18 +1,19 @@
--- What may stand in one place of a line of a wiring, and the code where something else stands there. Numbers and policies,
--- and how one place is read behind another, are in ccr_text.
+-- What may stand in one field of a line of a wiring, and the code where something else stands there. Numbers and policies,
+-- and how one field is read behind another, are in ccr_text.
 use Rattle.std.specs.Prelude.{ℕ, List, [], ◌∷◌, ◌+◌, Option, ◌++◌, Some, None, Result, Ok, Err, ◌==◌, ◌&&◌, not, is_some, take, drop, position, if◌then◌else◌, codes}
 use Rattle.std.specs.Option.{option_and_then}
 use Rattle.std.specs.List.{slice_split}
 use Rattle.std.specs.Str.{bytes_eq}
+use Rattle.ccr_base.specs.Bounds.{last_index, most_arg}
 use Rattle.ccr_base.specs.declared.policies.Group.{Group}
 use Rattle.ccr_base.specs.declared.policies.Group.TheVariants as groups
 use Rattle.ccr_base.specs.declared.handlers.Expr.{Expr}
 use Rattle.ccr_base.specs.declared.handlers.Expr.TheVariants as exprs
 use Rattle.ccr_base.specs.Values.{value_of_numbers}
+use Rattle.ccr_base.specs.Lists.{has_number}
 use Rattle.ccr_text.specs.Words.{number_of, is_name_of}
 use Rattle.ccr_text.specs.Names.{meaning_of}
 use Rattle.ccr_text.specs.Fields.{Words, ◌>>=◌, unless, or_code, word, number_within}
-use Rattle.ccr_wiring.specs.Repeats.{has_port}
 use Rattle.ccr_wiretext.specs.declared.named.Named.{Named}
 use Rattle.ccr_wiring.specs.References.{no_interleave}
 use Rattle.ccr_wiretext.specs.Names.{Naming, as_port, as_set, as_arbiter}
@@ -33,13 +34,13 @@ reference as_kind names words = do
   number ← or_code (option_and_then as_kind (meaning_of names name.0)) 7
   Ok (number, name.1)
 
--- the place of the first slash
+-- the index of the first slash
 unfoldable pub slash_index : List ℕ → Option ℕ
 slash_index name = position (λ b. b == 47) name
 
 -- the port where it is a member of the set
 abbrev pub member : Declared → ℕ → ℕ → Option ℕ
-member draft set port = if has_port (members_of draft set) port then Some port else None
+member draft set port = if has_number (members_of draft set) port then Some port else None
 
 -- the set's port of that name
 abbrev pub set_port : Declared → List ℕ → ℕ → Option ℕ
@@ -100,9 +101,9 @@ value version words = do
 -- which number of which message's value
 unfoldable pub part : Words → Result (Expr × Words) ℕ
 part words = do
-  message ← number_within 0 65535 words
-  place ← number_within 0 7 message.1
-  Ok (exprs.Part message.0 place.0, place.1)
+  message ← number_within 0 most_arg words
+  index ← number_within 0 last_index message.1
+  Ok (exprs.Part message.0 index.0, index.1)
 
 -- a value, arg N, sum or count, in version 2 part N N too
 unfoldable pub expr : ℕ → Words → Result (Expr × Words) ℕ
@@ -110,7 +111,7 @@ expr version words = do
   name ← word words
   if bytes_eq name.0 (codes "sum") then Ok (exprs.Sum, name.1) else
       if bytes_eq name.0 (codes "count") then Ok (exprs.Count, name.1) else
-      if bytes_eq name.0 (codes "arg") then (number_within 0 65535 name.1 >>= λ place. Ok (exprs.Arg place.0, place.1)) else
+      if bytes_eq name.0 (codes "arg") then (number_within 0 most_arg name.1 >>= λ message. Ok (exprs.Arg message.0, message.1)) else
       if bytes_eq name.0 (codes "part") && (version == 2) then part name.1 else
       (value_in version name.0 >>= λ numbers. Ok (exprs.Number numbers, name.1))
 

@@ -1,6 +1,7 @@
 -- The forms of a line: what stands behind its first word, and what it says.
 use Rattle.std.specs.Prelude.{ℕ, Bool, not, List, [], ◌++◌, ◌+◌, ◌==◌, length, nat_lt, Result, Ok}
 use Rattle.std.specs.List.{list_any}
+use Rattle.ccr_base.specs.Bounds.{most_actions, most_arbiters, most_branches, most_causes, most_domains, most_policy, most_queues, most_script_posts, most_sets, most_spots, most_task_posts}
 use Rattle.ccr_base.specs.declared.handlers.Action.{Action}
 use Rattle.ccr_base.specs.declared.handlers.Action.TheVariants as actions
 use Rattle.ccr_base.specs.declared.handlers.Expr.{Expr}
@@ -25,16 +26,16 @@ use Rattle.ccr_wiretext.specs.Patterns.{pattern, all_members, combined, causes}
 unfoldable pub budget_form : Declared → Words → Result ℕ ℕ
 budget_form draft words = do
   once ← unless (not draft.budgeted) 13
-  value ← number_within 0 10000 words
+  value ← number_within 0 most_task_posts words
   done ← no_more value.1
   Ok value.0
 
 -- queue NAME POLICY
 unfoldable pub queue_form : Declared → Words → Result QueuePart ℕ
 queue_form draft words = do
-  room ← limited 16 (length draft.parts.queues)
+  room ← limited most_queues (length draft.parts.queues)
   name ← new_name draft.names words
-  rule ← policy 1000 name.1
+  rule ← policy most_policy name.1
   done ← no_more rule.1
   Ok (record { name = name.0; policy = rule.0 })
 
@@ -49,7 +50,7 @@ name_form limit count draft words = do
 -- portset NAME PORT ..
 unfoldable pub set_form : Declared → Words → Result SetPart ℕ
 set_form draft words = do
-  room ← limited 64 (length draft.parts.sets)
+  room ← limited most_sets (length draft.parts.sets)
   name ← new_name draft.names words
   ports ← all_members draft name.1
   Ok (record { name = name.0; ports = ports })
@@ -57,7 +58,7 @@ set_form draft words = do
 -- cause NAME PORT
 unfoldable pub cause_form : Declared → Words → Result CausePart ℕ
 cause_form draft words = do
-  room ← limited 32 (length draft.parts.causes)
+  room ← limited most_causes (length draft.parts.causes)
   name ← new_name draft.names words
   to ← port draft name.1
   done ← no_more to.1
@@ -66,13 +67,13 @@ cause_form draft words = do
 -- combine INTERLEAVE INTERLEAVE ..
 unfoldable pub combine_form : Declared → Words → Result DomainPart ℕ
 combine_form draft words = do
-  room ← limited 128 (length draft.parts.domains)
+  room ← limited most_domains (length draft.parts.domains)
   members ← combined draft words
   Ok (record { members = members })
 
 -- with this branch more than 16 spots name one of the ports that it and its sites name: code 12
 unfoldable pub crowds : Declared → BranchPart → Bool
-crowds draft branch = list_any (λ port. nat_lt 16 (times port (draft.spotted ++ branch_named draft.parts branch))) (branch_named draft.parts branch)
+crowds draft branch = list_any (λ port. nat_lt most_spots (times port (draft.spotted ++ branch_named draft.parts branch))) (branch_named draft.parts branch)
 
 -- QUEUE HANDLER PATTERN, of a branch whose name and group are known
 unfoldable pub branch_tail : Declared → List ℕ → Group → Words → Result BranchPart ℕ
@@ -86,8 +87,8 @@ branch_tail draft name group words = do
 -- room for a receive, which counts as an arbiter and as a branch
 unfoldable pub receive_room : Declared → Result (Unit {0}) ℕ
 receive_room draft = do
-  room ← limited 256 (length draft.parts.arbiters)
-  limited 256 (branch_count draft.parts)
+  room ← limited most_arbiters (length draft.parts.arbiters)
+  limited most_branches (branch_count draft.parts)
 
 -- receive NAME GROUP QUEUE HANDLER PATTERN
 unfoldable pub receive_form : Declared → Words → Result BranchPart ℕ
@@ -100,14 +101,14 @@ receive_form draft words = do
 -- branch NAME QUEUE HANDLER PATTERN in a choice, and the three groups in an Interleave
 unfoldable pub branch_form : Declared → ArbiterPart → Group → Words → Result BranchPart ℕ
 branch_form draft part group words = do
-  room ← limited 256 (branch_count draft.parts + length part.branches)
+  room ← limited most_branches (branch_count draft.parts + length part.branches)
   name ← new_name draft.names words
   branch_tail draft name.0 group name.1
 
 -- post PORT EXPR, in a handler
 unfoldable pub post_form : Declared → HandlerPart → Words → Result Action ℕ
 post_form draft part words = do
-  room ← limited 16 (length part.handler.actions)
+  room ← limited most_actions (length part.handler.actions)
   to ← port draft words
   value ← expr draft.parts.version to.1
   done ← no_more value.1
@@ -116,7 +117,7 @@ post_form draft part words = do
 -- fail EXPR
 unfoldable pub fail_form : Declared → HandlerPart → Words → Result Expr ℕ
 fail_form draft part words = do
-  room ← limited 16 (length part.handler.actions)
+  room ← limited most_actions (length part.handler.actions)
   value ← expr draft.parts.version words
   done ← no_more value.1
   Ok value.0
@@ -124,7 +125,7 @@ fail_form draft part words = do
 -- add CAUSE and remove CAUSE
 unfoldable pub caused_form : Declared → HandlerPart → Words → Result ℕ ℕ
 caused_form draft part words = do
-  room ← limited 16 (length part.handler.actions)
+  room ← limited most_actions (length part.handler.actions)
   cause ← reference as_cause draft.names words
   done ← no_more cause.1
   Ok cause.0
@@ -132,7 +133,7 @@ caused_form draft part words = do
 -- await PORT
 unfoldable pub await_form : Declared → HandlerPart → Words → Result Action ℕ
 await_form draft part words = do
-  room ← limited 16 (length part.handler.actions)
+  room ← limited most_actions (length part.handler.actions)
   from ← port draft words
   done ← no_more from.1
   Ok (actions.Await from.0)
@@ -140,7 +141,7 @@ await_form draft part words = do
 -- post PORT VALUE CAUSE .., in a poster
 unfoldable pub script_form : Declared → PosterPart → Words → Result Sent ℕ
 script_form draft part words = do
-  room ← limited 10000 (script_count draft.parts + length part.posts)
+  room ← limited most_script_posts (script_count draft.parts + length part.posts)
   to ← port draft words
   value ← value draft.parts.version to.1
   all ← causes draft.names [] value.1

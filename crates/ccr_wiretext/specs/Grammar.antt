@@ -2,6 +2,7 @@
 use Rattle.std.specs.Prelude.{◌≡◌, ℕ, ◌≤◌, true, false, ◌==◌, List, [], ◌∷◌, ◌++◌, length, Option, Some, None, ◌⊎◌, codes}
 use Rattle.std.specs.Option.{option_and_then}
 use Rattle.std.specs.List.{list_any, join_with_byte}
+use Rattle.ccr_base.specs.Bounds.{last_index, most_arg, most_count, most_policy, most_slots, most_value_numbers}
 use Rattle.ccr_base.specs.declared.policies.Policy.{Policy}
 use Rattle.ccr_base.specs.declared.policies.Policy.TheVariants as policies
 use Rattle.ccr_base.specs.declared.policies.Group.{Group}
@@ -12,12 +13,12 @@ use Rattle.ccr_base.specs.declared.patterns.Pred.{Pred}
 use Rattle.ccr_base.specs.declared.patterns.Pred.TheVariants as preds
 use Rattle.ccr_base.specs.declared.patterns.Slot.{Slot}
 use Rattle.ccr_base.specs.declared.patterns.Pattern.{Pattern}
+use Rattle.ccr_base.specs.Lists.{has_number}
 use Rattle.ccr_base.specs.declared.patterns.Pattern.TheVariants as patterns
 use Rattle.ccr_text.specs.Words.{number_of, is_name_of}
 use Rattle.ccr_text.specs.Names.{meaning_of}
 use Rattle.ccr_text.specs.Fields.{Words}
 use Rattle.ccr_wiring.specs.References.{no_interleave}
-use Rattle.ccr_wiring.specs.Repeats.{has_port}
 use Rattle.ccr_wiretext.specs.declared.named.Named.{Named}
 use Rattle.ccr_wiretext.specs.Names.{Naming, as_port, as_set, as_cause, as_arbiter}
 use Rattle.ccr_wiretext.specs.Drafts.{Declared, members_of}
@@ -45,7 +46,7 @@ pub record IsMember (draft : Declared) (word : List ℕ) (port : ℕ) : Type 0 w
   pub number : ℕ
   pub in_set : Refers as_set draft.names set number
   pub in_names : Refers as_port draft.names name port
-  pub member : has_port (members_of draft number) port ≡ true
+  pub member : has_number (members_of draft number) port ≡ true
 
 -- PORT or SET/PORT
 abbrev pub IsPort : Declared → List ℕ → ℕ → Type 0
@@ -64,8 +65,8 @@ pub record IsWithin (low high : ℕ) (digits : List ℕ) (n : ℕ) : Type 0 wher
 -- the words say this policy
 abbrev pub IsPolicy : Words → Policy → Type 0
 IsPolicy words policies.Unbounded = words ≡ codes "unbounded" ∷ []
-IsPolicy words (policies.Discard n) = (digits : List ℕ) × (words ≡ codes "discard" ∷ digits ∷ []) × IsWithin 1 1000 digits n
-IsPolicy words (policies.Throttle n) = (digits : List ℕ) × (words ≡ codes "throttle" ∷ digits ∷ []) × IsWithin 1 1000 digits n
+IsPolicy words (policies.Discard n) = (digits : List ℕ) × (words ≡ codes "discard" ∷ digits ∷ []) × IsWithin 1 most_policy digits n
+IsPolicy words (policies.Throttle n) = (digits : List ℕ) × (words ≡ codes "throttle" ∷ digits ∷ []) × IsWithin 1 most_policy digits n
 
 -- the word that gives the group of a receive
 abbrev pub IsGroup : List ℕ → Group → Type 0
@@ -85,7 +86,7 @@ pub record IsList (word value : List ℕ) : Type 0 where
   pub spelled : word ≡ join_with_byte 44 digits
   pub numbers : AreNumbers digits value
   pub some : 1 ≤ length value
-  pub few : length value ≤ 8
+  pub few : length value ≤ most_value_numbers
 
 -- digits of one number
 pub record IsOne (word value : List ℕ) : Type 0 where
@@ -103,14 +104,14 @@ pub record IsPart (version : ℕ) (words : Words) (message index : ℕ) : Type 0
   pub first : List ℕ
   pub second : List ℕ
   pub spelled : words ≡ codes "part" ∷ first ∷ second ∷ []
-  pub counted : IsWithin 0 65535 first message
-  pub within : IsWithin 0 7 second index
+  pub counted : IsWithin 0 most_arg first message
+  pub within : IsWithin 0 last_index second index
 
 -- the words say this expression, in a text of this version
 abbrev pub IsExpr : ℕ → Words → Expr → Type 0
 IsExpr version words (exprs.Number value) = (word : List ℕ) × (words ≡ word ∷ []) × IsValueWord version word value
 IsExpr version words (exprs.Part message index) = IsPart version words message index
-IsExpr version words (exprs.Arg k) = (digits : List ℕ) × (words ≡ codes "arg" ∷ digits ∷ []) × IsWithin 0 65535 digits k
+IsExpr version words (exprs.Arg k) = (digits : List ℕ) × (words ≡ codes "arg" ∷ digits ∷ []) × IsWithin 0 most_arg digits k
 IsExpr version words exprs.Sum = words ≡ codes "sum" ∷ []
 IsExpr version words exprs.Count = words ≡ codes "count" ∷ []
 
@@ -128,7 +129,7 @@ pub record IsSlot (draft : Declared) (words : Words) (slot : Slot) : Type 0 wher
   pub test : Words
   pub spelled : words ≡ port ∷ count ∷ test
   pub refers : IsPort draft port slot.port
-  pub counted : IsWithin 1 1000 count slot.least
+  pub counted : IsWithin 1 most_count count slot.least
   pub exact : slot.most ≡ slot.least
   pub tests : IsPred test slot.pred
 
@@ -145,14 +146,14 @@ pub record IsGather (draft : Declared) (words : Words) (total first second : ℕ
   pub one : List ℕ
   pub other : List ℕ
   pub spelled : words ≡ count ∷ one ∷ other ∷ []
-  pub counted : IsWithin 1 1000 count total
+  pub counted : IsWithin 1 most_count count total
   pub refers : IsPort draft one first
   pub other_refers : IsPort draft other second
   pub apart : (first == second) ≡ false
 
 -- take and 1 to 8 slots, or gather and two ports
 abbrev pub IsPattern : Declared → Words → Pattern → Type 0
-IsPattern draft words (patterns.Slots slots) = (rest : Words) × (words ≡ codes "take" ∷ rest) × IsSlots draft [] slots rest × (1 ≤ length slots) × (length slots ≤ 8)
+IsPattern draft words (patterns.Slots slots) = (rest : Words) × (words ≡ codes "take" ∷ rest) × IsSlots draft [] slots rest × (1 ≤ length slots) × (length slots ≤ most_slots)
 IsPattern draft words (patterns.Gather total first second) = (rest : Words) × (words ≡ codes "gather" ∷ rest) × IsGather draft rest total first second
 
 -- ports of which each is none of those found before it
@@ -160,7 +161,7 @@ abbrev pub ArePorts : Declared → List ℕ → List ℕ → Words → Type 0
 ArePorts draft found [] words = words ≡ []
 ArePorts draft found (port ∷ ports) words =
     (word : List ℕ) × (rest : Words) × (words ≡ word ∷ rest) × IsPort draft word port
-    × (has_port found port ≡ false) × ArePorts draft (found ++ port ∷ []) ports rest
+    × (has_number found port ≡ false) × ArePorts draft (found ++ port ∷ []) ports rest
 
 -- the name of an Interleave
 abbrev pub IsInterleave : Declared → List ℕ → ℕ → Type 0
@@ -171,11 +172,11 @@ abbrev pub AreInterleaves : Declared → List ℕ → List ℕ → Words → Typ
 AreInterleaves draft found [] words = words ≡ []
 AreInterleaves draft found (number ∷ numbers) words =
     (word : List ℕ) × (rest : Words) × (words ≡ word ∷ rest) × IsInterleave draft word number
-    × (is_combined draft.parts.domains number ≡ false) × (has_port found number ≡ false) × AreInterleaves draft (found ++ number ∷ []) numbers rest
+    × (is_combined draft.parts.domains number ≡ false) × (has_number found number ≡ false) × AreInterleaves draft (found ++ number ∷ []) numbers rest
 
 -- causes of which each is none of those found before it
 abbrev pub AreCauses : Naming → List ℕ → List ℕ → Words → Type 0
 AreCauses names found [] words = words ≡ []
 AreCauses names found (cause ∷ causes) words =
     (word : List ℕ) × (rest : Words) × (words ≡ word ∷ rest) × Refers as_cause names word cause
-    × (has_port found cause ≡ false) × AreCauses names (found ++ cause ∷ []) causes rest
+    × (has_number found cause ≡ false) × AreCauses names (found ++ cause ∷ []) causes rest

@@ -1,5 +1,6 @@
 -- The grammar of the lines: which words say what is declared next, line form by line form, and of a whole text.
 use Rattle.std.specs.Prelude.{◌≡◌, ℕ, ◌+◌, ◌<◌, ◌≤◌, ◌==◌, true, false, List, [], ◌∷◌, length, Some, ◌⊎◌}
+use Rattle.ccr_base.specs.Bounds.{most_actions, most_arbiters, most_branches, most_causes, most_domains, most_handlers, most_members, most_ports, most_posters, most_queues, most_script_posts, most_set_ports, most_sets, most_task_posts}
 use Rattle.ccr_base.specs.declared.handlers.Action.{Action}
 use Rattle.ccr_base.specs.declared.handlers.Action.TheVariants as actions
 use Rattle.ccr_base.specs.declared.messages.Sent.{Sent}
@@ -35,11 +36,11 @@ pub record IsBudget (draft : Declared) (words : Words) (budget : ℕ) : Type 0 w
   pub once : draft.budgeted ≡ false
   pub digits : List ℕ
   pub spelled : words ≡ digits ∷ []
-  pub within : IsWithin 0 10000 digits budget
+  pub within : IsWithin 0 most_task_posts digits budget
 
 -- queue NAME POLICY
 pub record IsQueue (draft : Declared) (words : Words) (part : QueuePart) : Type 0 where
-  pub room : length draft.parts.queues < 16
+  pub room : length draft.parts.queues < most_queues
   pub rule : Words
   pub spelled : words ≡ part.name ∷ rule
   pub name : IsNew draft.names part.name
@@ -53,17 +54,17 @@ pub record IsName (limit count : ℕ) (draft : Declared) (words : Words) (name :
 
 -- portset NAME PORT ..
 pub record IsSet (draft : Declared) (words : Words) (part : SetPart) : Type 0 where
-  pub room : length draft.parts.sets < 64
+  pub room : length draft.parts.sets < most_sets
   pub rest : Words
   pub spelled : words ≡ part.name ∷ rest
   pub name : IsNew draft.names part.name
   pub ports : ArePorts draft [] part.ports rest
   pub some : 1 ≤ length part.ports
-  pub few : length part.ports ≤ 8
+  pub few : length part.ports ≤ most_set_ports
 
 -- cause NAME PORT
 pub record IsCause (draft : Declared) (words : Words) (part : CausePart) : Type 0 where
-  pub room : length draft.parts.causes < 32
+  pub room : length draft.parts.causes < most_causes
   pub port : List ℕ
   pub spelled : words ≡ part.name ∷ port ∷ []
   pub name : IsNew draft.names part.name
@@ -71,10 +72,10 @@ pub record IsCause (draft : Declared) (words : Words) (part : CausePart) : Type 
 
 -- combine INTERLEAVE INTERLEAVE ..
 pub record IsCombine (draft : Declared) (words : Words) (part : DomainPart) : Type 0 where
-  pub room : length draft.parts.domains < 128
+  pub room : length draft.parts.domains < most_domains
   pub members : AreInterleaves draft [] part.members words
   pub some : 2 ≤ length part.members
-  pub few : length part.members ≤ 8
+  pub few : length part.members ≤ most_members
 
 -- QUEUE HANDLER PATTERN
 pub record IsBranchTail (draft : Declared) (words : Words) (branch : BranchPart) : Type 0 where
@@ -89,8 +90,8 @@ pub record IsBranchTail (draft : Declared) (words : Words) (branch : BranchPart)
 
 -- receive NAME GROUP QUEUE HANDLER PATTERN
 pub record IsReceive (draft : Declared) (words : Words) (branch : BranchPart) : Type 0 where
-  pub room : length draft.parts.arbiters < 256
-  pub branch_room : branch_count draft.parts < 256
+  pub room : length draft.parts.arbiters < most_arbiters
+  pub branch_room : branch_count draft.parts < most_branches
   pub group : List ℕ
   pub rest : Words
   pub spelled : words ≡ branch.name ∷ group ∷ rest
@@ -100,7 +101,7 @@ pub record IsReceive (draft : Declared) (words : Words) (branch : BranchPart) : 
 
 -- NAME QUEUE HANDLER PATTERN, behind the word of the group
 pub record IsBranch (draft : Declared) (part : ArbiterPart) (group : Group) (words : Words) (branch : BranchPart) : Type 0 where
-  pub branch_room : branch_count draft.parts + length part.branches < 256
+  pub branch_room : branch_count draft.parts + length part.branches < most_branches
   pub rest : Words
   pub spelled : words ≡ branch.name ∷ rest
   pub name : IsNew draft.names branch.name
@@ -118,7 +119,7 @@ IsAction draft _ words _ = ⊥
 
 -- post PORT VALUE CAUSE .., in a poster
 pub record IsPost (draft : Declared) (part : PosterPart) (words : Words) (post : Sent) : Type 0 where
-  pub room : script_count draft.parts + length part.posts < 10000
+  pub room : script_count draft.parts + length part.posts < most_script_posts
   pub to : List ℕ
   pub value : List ℕ
   pub rest : Words
@@ -131,22 +132,22 @@ pub record IsPost (draft : Declared) (part : PosterPart) (words : Words) (post :
 abbrev pub SaysOutside : Declared → Keyword → Words → Declared → Type 0
 SaysOutside draft keywords.Budget words new = (budget : ℕ) × IsBudget draft words budget × (new ≡ with_budget draft budget)
 SaysOutside draft keywords.Queue words new = (part : QueuePart) × IsQueue draft words part × (new ≡ with_queue draft part)
-SaysOutside draft keywords.Port words new = (name : List ℕ) × IsName 256 (length draft.parts.ports) draft words name × (new ≡ with_port draft name)
+SaysOutside draft keywords.Port words new = (name : List ℕ) × IsName most_ports (length draft.parts.ports) draft words name × (new ≡ with_port draft name)
 SaysOutside draft keywords.Portset words new = (part : SetPart) × IsSet draft words part × (new ≡ with_set draft part)
 SaysOutside draft keywords.Cause words new = (part : CausePart) × IsCause draft words part × (new ≡ with_cause draft part)
-SaysOutside draft keywords.Handler words new = (name : List ℕ) × IsName 256 (length draft.parts.handlers) draft words name × (new ≡ with_handler draft name)
+SaysOutside draft keywords.Handler words new = (name : List ℕ) × IsName most_handlers (length draft.parts.handlers) draft words name × (new ≡ with_handler draft name)
 SaysOutside draft keywords.Receive words new = (branch : BranchPart) × IsReceive draft words branch × (new ≡ with_receive draft branch)
-SaysOutside draft keywords.Choice words new = (name : List ℕ) × IsName 256 (length draft.parts.arbiters) draft words name × (new ≡ with_arbiter draft arbiters.Choice name)
-SaysOutside draft keywords.Interleave words new = (name : List ℕ) × IsName 256 (length draft.parts.arbiters) draft words name × (new ≡ with_arbiter draft arbiters.Interleave name)
+SaysOutside draft keywords.Choice words new = (name : List ℕ) × IsName most_arbiters (length draft.parts.arbiters) draft words name × (new ≡ with_arbiter draft arbiters.Choice name)
+SaysOutside draft keywords.Interleave words new = (name : List ℕ) × IsName most_arbiters (length draft.parts.arbiters) draft words name × (new ≡ with_arbiter draft arbiters.Interleave name)
 SaysOutside draft keywords.Combine words new = (part : DomainPart) × IsCombine draft words part × (new ≡ with_domain draft part)
-SaysOutside draft keywords.Poster words new = (name : List ℕ) × IsName 16 (length draft.parts.posters) draft words name × (new ≡ with_poster draft name)
+SaysOutside draft keywords.Poster words new = (name : List ℕ) × IsName most_posters (length draft.parts.posters) draft words name × (new ≡ with_poster draft name)
 SaysOutside draft _ words new = ⊥
 
 -- in a handler: `end`, or one of at most 16 actions
 abbrev pub SaysInHandler : Declared → HandlerPart → Keyword → Words → Declared → Type 0
 SaysInHandler draft part first words new =
     ((first ≡ keywords.End) × (words ≡ []) × (new ≡ end_handler draft part))
-    ⊎ ((action : Action) × (length part.handler.actions < 16) × IsAction draft first words action × (new ≡ with_action draft part action))
+    ⊎ ((action : Action) × (length part.handler.actions < most_actions) × IsAction draft first words action × (new ≡ with_action draft part action))
 
 -- in a choice or Interleave: `end` behind a branch or more, or a branch of a group that its kind has
 abbrev pub SaysInArbiter : Declared → ArbiterPart → Keyword → Words → Declared → Type 0

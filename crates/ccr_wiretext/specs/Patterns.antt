@@ -3,15 +3,16 @@ use Rattle.std.specs.Prelude.{ℕ, Bool, zero, suc, List, [], ◌∷◌, ◌++�
 use Rattle.std.specs.Option.{option_and_then}
 use Rattle.std.specs.List.{list_any}
 use Rattle.std.specs.Str.{bytes_eq}
+use Rattle.ccr_base.specs.Bounds.{most_count}
 use Rattle.ccr_base.specs.declared.patterns.Pred.{Pred}
 use Rattle.ccr_base.specs.declared.patterns.Pred.TheVariants as preds
 use Rattle.ccr_base.specs.declared.patterns.Slot.{Slot}
 use Rattle.ccr_base.specs.declared.patterns.Pattern.{Pattern}
+use Rattle.ccr_base.specs.Lists.{has_number}
 use Rattle.ccr_base.specs.declared.patterns.Pattern.TheVariants as patterns
 use Rattle.ccr_text.specs.Names.{meaning_of}
 use Rattle.ccr_text.specs.Fields.{Words, ◌>>=◌, unless, or_code, word, no_more, number, number_within}
 use Rattle.ccr_wiring.specs.declared.parts.DomainPart.{DomainPart}
-use Rattle.ccr_wiring.specs.Repeats.{has_port}
 use Rattle.ccr_wiretext.specs.Names.{Naming, as_cause}
 use Rattle.ccr_wiretext.specs.Drafts.{Declared}
 use Rattle.ccr_wiretext.specs.Fields.{port, interleave}
@@ -30,7 +31,7 @@ pred words = do
 unfoldable pub new_port : Declared → List ℕ → Words → Result (ℕ × Words) ℕ
 new_port draft found words = do
   next ← port draft words
-  apart ← unless (not (has_port found next.0)) 8
+  apart ← unless (not (has_number found next.0)) 8
   Ok next
 
 -- PORT N PREDICATE, where the port stands in no slot before it
@@ -38,7 +39,7 @@ unfoldable pub slot : Declared → List Slot → Words → Result (Slot × Words
 slot draft found words = do
   port ← port draft words
   apart ← unless (not (list_any (λ other. other.port == port.0) found)) 8
-  count ← number_within 1 1000 port.1
+  count ← number_within 1 most_count port.1
   test ← pred count.1
   Ok (record { port = port.0; least = count.0; most = count.0; pred = test.0 }, test.1)
 
@@ -60,7 +61,7 @@ taken draft words = do
 -- N PORT PORT
 unfoldable pub gathered : Declared → Words → Result Pattern ℕ
 gathered draft words = do
-  total ← number_within 1 1000 words
+  total ← number_within 1 most_count words
   first ← port draft total.1
   second ← new_port draft (first.0 ∷ []) first.1
   done ← no_more second.1
@@ -90,13 +91,13 @@ all_members draft words = do
 
 -- the Interleave stands in one of these domains
 abbrev pub is_combined : List DomainPart → ℕ → Bool
-is_combined domains number = list_any (λ (domain : DomainPart). has_port domain.members number) domains
+is_combined domains number = list_any (λ (domain : DomainPart). has_number domain.members number) domains
 
 -- an Interleave that no line before combines, and that isn't among those found before it
 unfoldable pub new_member : Declared → List ℕ → Words → Result (ℕ × Words) ℕ
 new_member draft found words = do
   next ← interleave draft words
-  apart ← unless (not (is_combined draft.parts.domains next.0 || has_port found next.0)) 8
+  apart ← unless (not (is_combined draft.parts.domains next.0 || has_number found next.0)) 8
   Ok next
 
 -- further Interleaves behind those that were found, as long as words are left and there is room
@@ -119,5 +120,5 @@ unfoldable pub causes : Naming → List ℕ → Words → Result (List ℕ) ℕ
 causes names found [] = Ok found
 causes names found (first ∷ words) = do
   cause ← or_code (option_and_then as_cause (meaning_of names first)) 7
-  apart ← unless (not (has_port found cause)) 8
+  apart ← unless (not (has_number found cause)) 8
   causes names (found ++ cause ∷ []) words

@@ -1,5 +1,6 @@
 -- Plain lines of posters, found in one scan.
 use Rattle.std.specs.Prelude.{◌≡◌, ◌<◌, ◌+◌, ℕ, true, nat_lt, List, [], ◌∷◌, length, Some, Ok, Err, codes}
+use Rattle.ccr_base.specs.Bounds.{most_script_posts}
 use Rattle.ccr_text.specs.Words.{is_clean, number_of, words_of}
 use Rattle.ccr_text.specs.Lines.{cut, first_line}
 use Rattle.ccr_text.specs.declared.stop.Stop.{Stop}
@@ -25,7 +26,7 @@ pub record IsPlainPost (text : List ℕ) (post : PlainPost) : Type 0 where
 pub record MayPost (draft : Declared) (name : List ℕ) (port : ℕ) : Type 0 where
   pub part : PosterPart
   pub block : draft.block ≡ blocks.Poster part
-  pub room : nat_lt (script_count draft.parts + length part.posts) 10000 ≡ true
+  pub room : nat_lt (script_count draft.parts + length part.posts) most_script_posts ≡ true
   pub means : port_of draft name ≡ Some port
 
 -- the text's first line is taken in, and this stands behind it
@@ -37,4 +38,6 @@ pub record IsLineTaken (so : So) (text : List ℕ) (new : So) (behind : List ℕ
 -- the text's first line is refused
 abbrev pub IsLineRefused : So → List ℕ → Stop → Type 0
 IsLineRefused so text stops.Memory = Unit {0}
-IsLineRefused so text (stops.Refused code) = (behind : List ℕ) × (cut text ≡ first_line text ∷ cut behind) × (after_clean so (is_clean (first_line text)) (words_of (first_line text)) ≡ Err (code_number code))
+IsLineRefused so text (stops.Refused code) =
+    (behind : List ℕ) × (cut text ≡ first_line text ∷ cut behind)
+    × (after_clean so (is_clean (first_line text)) (words_of (first_line text)) ≡ Err (code_number code))

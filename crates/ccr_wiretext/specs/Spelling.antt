@@ -167,7 +167,11 @@ port_lines parts = map port_words parts.ports ++ map (set_words parts) parts.set
 
 -- the handlers, the arbiters, the combined Interleaves and the posters
 unfoldable pub acting_lines : Parts → List Words
-acting_lines parts = flat_map (handler_lines parts) parts.handlers ++ flat_map (arbiter_lines parts) parts.arbiters ++ map (combine_words parts) parts.domains ++ flat_map (poster_lines parts) parts.posters
+acting_lines parts =
+    flat_map (handler_lines parts) parts.handlers
+    ++ flat_map (arbiter_lines parts) parts.arbiters
+    ++ map (combine_words parts) parts.domains
+    ++ flat_map (poster_lines parts) parts.posters
 
 -- the lines in their order, each kind in the order of its numbers
 abbrev pub canonical_lines : Parts → List Words

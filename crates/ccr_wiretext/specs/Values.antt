@@ -1,6 +1,7 @@
 -- The values of a wiring: each is 1 to 8 numbers of 64 bits.
 use Rattle.std.specs.Prelude.{ℕ, ◌^◌, ◌<◌, ◌≤◌, List, length}
 use Rattle.std.specs.List.{All}
+use Rattle.ccr_base.specs.Bounds.{most_value_numbers}
 use Rattle.ccr_base.specs.declared.handlers.Expr.{Expr}
 use Rattle.ccr_base.specs.declared.handlers.Expr.TheVariants as exprs
 use Rattle.ccr_base.specs.declared.handlers.Action.{Action}
@@ -23,7 +24,7 @@ IsNumeral n = n < 2 ^ 64
 
 -- numbers that a message may carry
 unfoldable pub IsValue : List ℕ → Type 0
-IsValue value = All IsNumeral value × (1 ≤ length value) × (length value ≤ 8)
+IsValue value = All IsNumeral value × (1 ≤ length value) × (length value ≤ most_value_numbers)
 
 -- the value of an expression
 abbrev pub IsExprValued : Expr → Type 0

@@ -3,7 +3,6 @@
 ghost use Rattle.std.specs.Prelude.{◌≡◌, ◌<◌, None, OnOk, IfOk, length, [], ◌∷◌, ◌++◌};
 ghost use Rattle.ccr_base.specs.Bounds.{most_arbiters, most_causes, most_handlers, most_ports, most_queues, most_sets};
 ghost use Rattle.ccr_text.specs.Names.{meaning_of};
-ghost use Rattle.ccr_wiring.specs.Spots.{branch_named};
 ghost use Rattle.ccr_wiretext.specs.Drafts.{nothing, with_budget, with_queue, with_port, with_set, with_cause, with_receive, with_handler, with_arbiter, with_poster, with_domain, with_action, with_branch, with_post, end_handler, end_arbiter, end_poster};
 
 use crate::named::Named;

@@ -1,4 +1,4 @@
-//! The places of a line of one word or two. Each function takes the words of one place, or tells the code of what stands
+//! The fields of a line of one word or two. Each function takes the words of one field, or tells the code of what stands
 //! there.
 
 ghost use Rattle.ccr_text.specs.Answers.{Leaves, LeavesBy};
@@ -10,7 +10,7 @@ use crate::named::Named;
 use crate::values::value_in;
 use ccr_base::{ArbiterNo, CauseNo, Expr, Group, HandlerNo, PortNo, QueueNo, Value};
 use ccr_text::{Code, Cursor, Names, Stop, is_name, is_text};
-use ccr_wiring::{MAX_ARG, MAX_PLACE};
+use ccr_wiring::{MAX_ARG, MAX_INDEX};
 use std::alloc::Global;
 
 /// A name that is declared here.
@@ -125,8 +125,8 @@ fn part(words: &mut Cursor<'_>) -> Result<Expr, Stop>
     ensures { Leaves words.new result (part words.old) }
 {
     let message = words.number_within(0, MAX_ARG)?;
-    let place = words.number_within(0, MAX_PLACE)?;
-    Ok(Expr::Part(message, place))
+    let index = words.number_within(0, MAX_INDEX)?;
+    Ok(Expr::Part(message, index))
 }
 
 /// A value, arg N, sum or count; in version 2 part N N too.

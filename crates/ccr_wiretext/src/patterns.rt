@@ -8,10 +8,10 @@ ghost use Rattle.std.specs.List.{list_any};
 use crate::draft::Draft;
 use crate::fields;
 use crate::named::Named;
-use crate::references::{has_port, is_combined};
+use crate::references::is_combined;
 use ccr_base::{ArbiterNo, CauseNo, List, Pattern, PortNo, Pred, Slot};
 use ccr_text::{Code, Cursor, Names, Stop, is_text};
-use ccr_wiring::{MAX_COUNT, MAX_MEMBERS, MAX_SET_PORTS, MAX_SLOTS};
+use ccr_wiring::{MAX_COUNT, MAX_MEMBERS, MAX_SET_PORTS, MAX_SLOTS, has_number};
 use std::alloc::Global;
 
 /// Whether a slot has the port.
@@ -46,7 +46,7 @@ fn new_port(words: &mut Cursor<'_>, draft: &Draft, found: &[PortNo]) -> Result<P
     ensures { Leaves words.new result (new_port draft.now found.now words.old) }
 {
     let port = fields::port(words, draft)?;
-    if has_port(found, port) {
+    if has_number(found, port) {
         return Err(Stop::Refused(Code::Repeat));
     }
     Ok(port)
@@ -142,7 +142,7 @@ fn new_member(words: &mut Cursor<'_>, draft: &Draft, found: &[ArbiterNo]) -> Res
     ensures { Leaves words.new result (new_member draft.now found.now words.old) }
 {
     let arbiter = fields::interleave(words, draft)?;
-    if is_combined(draft.parts.domains.as_slice(), arbiter) || has_port(found, arbiter) {
+    if is_combined(draft.parts.domains.as_slice(), arbiter) || has_number(found, arbiter) {
         return Err(Stop::Refused(Code::Repeat));
     }
     Ok(arbiter)
@@ -182,7 +182,7 @@ pub fn causes(
     let mut found = Vec::new(alloc);
     'causes: while !words.is_empty() {
         let next = fields::cause(words, names)?;
-        if has_port(&found, next) {
+        if has_number(&found, next) {
             return Err(Stop::Refused(Code::Repeat));
         }
         found.push(next)?;

@@ -1,9 +1,8 @@
 //! The ports that words mean, and the ports that a branch's spots name.
 
-ghost use Rattle.std.specs.Prelude.{◌≡◌, ◌<◌, ◌==◌, ◌++◌, not, IfOk, IfSome, OnOk, length};
+ghost use Rattle.std.specs.Prelude.{◌≡◌, ◌<◌, ◌==◌, not, IfOk, IfSome, length};
 ghost use Rattle.ccr_text.specs.Names.{meaning_of};
 ghost use Rattle.ccr_wiring.specs.Spots.{branch_named};
-ghost use Rattle.ccr_wiring.specs.Repeats.{has_port};
 ghost use Rattle.ccr_wiring.specs.References.{no_interleave};
 ghost use Rattle.ccr_wiretext.specs.Patterns.{is_combined};
 ghost use Rattle.ccr_wiretext.specs.Drafts.{members_of};
@@ -14,14 +13,7 @@ ghost use Rattle.ccr_wiretext.specs.Names.{as_port, as_set};
 use crate::draft::Draft;
 use crate::named::Named;
 use ccr_base::{ArbiterNo, OutOfMemory, PortNo};
-use ccr_wiring::{BranchPart, DomainPart, Kind, add_branch_ports};
-
-/// Whether the port is among the ports.
-pub fn has_port(ports: &[PortNo], port: PortNo) -> bool
-    ensures { result ≡ has_port ports.now port }
-{
-    ports.iter().any(|other| *other == port)
-}
+use ccr_wiring::{BranchPart, DomainPart, add_branch_ports, has_number, no_interleave};
 
 /// Whether a domain has the arbiter.
 pub fn is_combined(domains: &[DomainPart], arbiter: ArbiterNo) -> bool
@@ -29,14 +21,14 @@ pub fn is_combined(domains: &[DomainPart], arbiter: ArbiterNo) -> bool
 {
     domains
         .iter()
-        .any(|domain| has_port(domain.members.as_slice(), arbiter))
+        .any(|domain| has_number(domain.members.as_slice(), arbiter))
 }
 
-/// The place of the first slash.
+/// The index of the first slash.
 #[tactic(auto, unfolding(crate::specs::Fields::slash_index))]
 fn slash_index(name: &[u8]) -> Option<usize>
-    ensures place { result ≡ slash_index name.now }
-    ensures within { IfSome result (λ place. place < length name.now) }
+    ensures index { result ≡ slash_index name.now }
+    ensures within { IfSome result (λ index. index < length name.now) }
 {
     name.iter().position(|byte| *byte == b'/')
 }
@@ -74,7 +66,7 @@ impl Draft {
         ensures { result ≡ set_port self.now name.now set }
     {
         let port = self.plain_port(name)?;
-        if !has_port(self.members(set), port) {
+        if !has_number(self.members(set), port) {
             return None;
         }
         Some(port)
@@ -94,10 +86,7 @@ impl Draft {
     pub fn is_interleave(&self, arbiter: ArbiterNo) -> bool
         ensures { result ≡ not (no_interleave self.now.parts arbiter) }
     {
-        match self.parts.arbiters.as_slice().get(arbiter as usize) {
-            Some(part) => matches!(part.kind, Kind::Interleave),
-            None => false,
-        }
+        !no_interleave(&self.parts, arbiter)
     }
 
     /// The ports that a branch and its sites name, once for each.

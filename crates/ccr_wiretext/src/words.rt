@@ -1,15 +1,15 @@
 //! The words of the canonical lines.
 
 ghost use Rattle.std.specs.Prelude.{◌≡◌, [], ◌∷◌, ◌++◌, OnOk, IfOk, map, flat_map, decimal};
-ghost use Rattle.ccr_wiretext.specs.Spelling.{port_name, queue_name, cause_name, handler_name, arbiter_name, version_words, combine_words, budget_words, policy_words, queue_words, port_words, set_words, cause_words, expr_words, action_words, end_words, pred_words, slot_words, pattern_words, group_words, branch_words, post_words};
+ghost use Rattle.ccr_wiretext.specs.Spelling.{port_name, queue_name, cause_name, handler_name, arbiter_name, version_words, combine_words, budget_words, policy_words, queue_words, set_words, cause_words, expr_words, action_words, end_words, pred_words, slot_words, pattern_words, group_words, branch_words, post_words};
 ghost use Rattle.ccr_text.specs.Exact.{value_word};
 ghost use Rattle.std.specs.List.{All};
 ghost use Rattle.ccr_wiretext.specs.Values.{IsNumeral, IsValue, IsExprValued, IsActionValued, IsPredValued, IsPatternValued};
 
 use crate::draft::copy_of;
 use ccr_base::{
-    Action, ArbiterNo, CauseNo, Expr, Group, HandlerNo, List, Name, OutOfMemory, Pattern, Policy,
-    PortNo, Pred, QueueNo, Slot, Value,
+    Action, ArbiterNo, CauseNo, Expr, Group, HandlerNo, Name, OutOfMemory, Pattern, Policy, PortNo,
+    Pred, QueueNo, Slot, Value,
 };
 use ccr_wiring::{BranchPart, CausePart, DomainPart, Parts, QueuePart, ScriptPost, SetPart};
 use std::alloc::Global;

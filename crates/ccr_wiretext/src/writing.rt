@@ -5,7 +5,7 @@ ghost use Rattle.ccr_text.specs.Spelling.{line_text, text_of};
 ghost use Rattle.std.specs.List.{All};
 ghost use Rattle.ccr_wiretext.specs.Reading.{reading_text};
 ghost use Rattle.ccr_wiretext.specs.Values.{IsValue, IsActionValued, IsHandlerValued, IsPatternValued, IsArbiterValued, IsPosterValued, IsValued};
-ghost use Rattle.ccr_wiretext.specs.Spelling.{version_words, budget_words, queue_words, port_words, set_words, cause_words, action_words, end_words, handler_lines, branch_words, combine_words, block_lines, arbiter_lines, post_words, poster_lines, queue_lines, port_lines, acting_lines, canonical_lines, spelling};
+ghost use Rattle.ccr_wiretext.specs.Spelling.{version_words, budget_words, queue_words, port_words, set_words, cause_words, action_words, end_words, handler_lines, branch_words, combine_words, block_lines, arbiter_lines, post_words, poster_lines, queue_lines, port_lines, acting_lines, spelling};
 
 use crate::laws::what_is_written_is_read;
 use crate::words::LineWords;

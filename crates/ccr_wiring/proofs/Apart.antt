@@ -3,25 +3,25 @@ use Rattle.std.proofs.Common.{◌≡◌, ℕ, Bool, true, false, not, ◌&&◌, 
 use Rattle.std.specs.Prelude.{◌==◌}
 use Rattle.std.proofs.lemmas.Bool.{and_parts}
 use Rattle.std.proofs.lemmas.Bool.Decides.{nat_tests}
-use Rattle.ccr_wiring.specs.Repeats.{are_apart, has_port}
+use Rattle.ccr_base.specs.Lists.{are_apart, has_number}
 
-not_in : (xs : List ℕ) (c x : ℕ) → has_port xs x ≡ false → (x == c) ≡ false → has_port (xs ++ c ∷ []) x ≡ false
+not_in : (xs : List ℕ) (c x : ℕ) → has_number xs x ≡ false → (x == c) ≡ false → has_number (xs ++ c ∷ []) x ≡ false
 not_in [] c x out other = let same : (c == x) ≡ false = grind (arith, nat_tests, other) in rw same refl
 not_in (y ∷ xs) c x out other = by (y == x) out (λ rest. not_in xs c x rest other)
   where
-    by : (b : Bool) → b || has_port xs x ≡ false → (has_port xs x ≡ false → has_port (xs ++ c ∷ []) x ≡ false) → b || has_port (xs ++ c ∷ []) x ≡ false
+    by : (b : Bool) → b || has_number xs x ≡ false → (has_number xs x ≡ false → has_number (xs ++ c ∷ []) x ≡ false) → b || has_number (xs ++ c ∷ []) x ≡ false
     by false rest more = more rest
     by true rest more = absurd (cc)
 
 -- one more that isn't there
-pub apart_snoc : (xs : List ℕ) (c : ℕ) → are_apart xs ≡ true → has_port xs c ≡ false → are_apart (xs ++ c ∷ []) ≡ true
+pub apart_snoc : (xs : List ℕ) (c : ℕ) → are_apart xs ≡ true → has_number xs c ≡ false → are_apart (xs ++ c ∷ []) ≡ true
 apart_snoc [] c apart out = refl
-apart_snoc (x ∷ xs) c apart out = by (x == c) refl out (and_parts (not (has_port xs x)) (are_apart xs) apart).0 (and_parts (not (has_port xs x)) (are_apart xs) apart).1 (apart_snoc xs c)
+apart_snoc (x ∷ xs) c apart out = by (x == c) refl out (and_parts (not (has_number xs x)) (are_apart xs) apart).0 (and_parts (not (has_number xs x)) (are_apart xs) apart).1 (apart_snoc xs c)
   where
     of_first : (b : Bool) → not b ≡ true → b ≡ false
     of_first false e = refl
     of_first true e = absurd (cc)
 
-    by : (b : Bool) → (x == c) ≡ b → b || has_port xs c ≡ false → not (has_port xs x) ≡ true → are_apart xs ≡ true → (are_apart xs ≡ true → has_port xs c ≡ false → are_apart (xs ++ c ∷ []) ≡ true) → not (has_port (xs ++ c ∷ []) x) && are_apart (xs ++ c ∷ []) ≡ true
+    by : (b : Bool) → (x == c) ≡ b → b || has_number xs c ≡ false → not (has_number xs x) ≡ true → are_apart xs ≡ true → (are_apart xs ≡ true → has_number xs c ≡ false → are_apart (xs ++ c ∷ []) ≡ true) → not (has_number (xs ++ c ∷ []) x) && are_apart (xs ++ c ∷ []) ≡ true
     by true is out here rest more = absurd (cc)
-    by false is out here rest more = rw (not_in xs c x (of_first (has_port xs x) here) is) (more rest out)
+    by false is out here rest more = rw (not_in xs c x (of_first (has_number xs x) here) is) (more rest out)

@@ -5,6 +5,7 @@ use Rattle.std.specs.List.{list_any, slice_get}
 use Rattle.std.specs.Option.{option_map, option_map_or}
 use Rattle.std.proofs.lemmas.Option.{slice_get-map}
 use Rattle.std.proofs.lemmas.Bool.Decides.{nat_tests}
+use Rattle.ccr_base.specs.Lists.{has_number}
 use Rattle.ccr_wiring.specs.declared.parts.ArbiterPart.{ArbiterPart}
 use Rattle.ccr_wiring.specs.declared.parts.BranchPart.{BranchPart}
 use Rattle.ccr_wiring.specs.declared.parts.DomainPart.{DomainPart}
@@ -14,7 +15,6 @@ use Rattle.ccr_wiring.specs.declared.parts.Parts.{Parts}
 use Rattle.ccr_wiring.specs.Domains.{least_with, domain_of}
 use Rattle.ccr_wiring.specs.Groups.{is_interleave}
 use Rattle.ccr_wiring.specs.References.{no_interleave, domain_is_dangling, has_dangling_domain}
-use Rattle.ccr_wiring.specs.Repeats.{has_port}
 use Rattle.ccr_wiring.specs.Wirings.{Placement, placement, placements_from, in_domain}
 use Rattle.ccr_wiring.proofs.Lists.{neither}
 
@@ -68,15 +68,15 @@ least_fails p least (number ∷ numbers) fails none =
     least_fails p (min least number) numbers (no_less p least number fails both.0) both.1
 
 -- what none of the numbers passes, a number among them doesn't
-pub member_fails : (p : ℕ → Bool) (numbers : List ℕ) (number : ℕ) → has_port numbers number ≡ true → list_any p numbers ≡ false → p number ≡ false
+pub member_fails : (p : ℕ → Bool) (numbers : List ℕ) (number : ℕ) → has_number numbers number ≡ true → list_any p numbers ≡ false → p number ≡ false
 member_fails p [] number there none = absurd cc
 member_fails p (other ∷ numbers) number there none =
     let both = neither (p other) (list_any p numbers) none in
     by_test (other == number) refl (λ among. member_fails p numbers number among both.1)
   where
-    by_test : (t : Bool) → (other == number) ≡ t → (has_port numbers number ≡ true → p number ≡ false) → p number ≡ false
+    by_test : (t : Bool) → (other == number) ≡ t → (has_number numbers number ≡ true → p number ≡ false) → p number ≡ false
     by_test true same others = let e : other ≡ number = grind (arith, nat_tests, same) in ap p (sym e) ∙ (neither (p other) (list_any p numbers) none).0
-    by_test false apart others = others (ap (λ b. b || has_port numbers number) (sym apart) ∙ there)
+    by_test false apart others = others (ap (λ b. b || has_number numbers number) (sym apart) ∙ there)
 
 interleave_kind : (kind : Kind) → not (is_interleave kind) ≡ false → kind ≡ kinds.Interleave
 interleave_kind kinds.Interleave fails = refl
@@ -98,9 +98,9 @@ domain_kind : (parts : Parts) (number : ℕ) (arbiter : ArbiterPart) (domains : 
 domain_kind parts number arbiter [] none at = rw at refl
 domain_kind parts number arbiter (domain ∷ domains) none at =
     let both = neither (domain_is_dangling parts domain) (list_any (domain_is_dangling parts) domains) none in
-    by_test (has_port domain.members number) refl both.0 (domain_kind parts number arbiter domains both.1 at)
+    by_test (has_number domain.members number) refl both.0 (domain_kind parts number arbiter domains both.1 at)
   where
-    by_test : (t : Bool) → has_port domain.members number ≡ t → domain_is_dangling parts domain ≡ false
+    by_test : (t : Bool) → has_number domain.members number ≡ t → domain_is_dangling parts domain ≡ false
         → IsSomeAnd (slice_get parts.arbiters (domain_of domains number)) (λ (other : ArbiterPart). other.kind ≡ arbiter.kind)
         → IsSomeAnd (slice_get parts.arbiters (domain_of (domain ∷ domains) number)) (λ (other : ArbiterPart). other.kind ≡ arbiter.kind)
     by_test false apart fine rest = rw apart rest

@@ -1,5 +1,5 @@
 -- Lists of spots, one for each number, and what they gain.
-use Rattle.std.proofs.Common.{◌≡◌, ◌∙◌, ℕ, zero, suc, ◌+◌, ◌<◌, ◌≤◌, Bool, true, false, List, [], ◌∷◌, ◌++◌, length, take, Option, None, Some, refl, ap, sym, arith, length-set}
+use Rattle.std.proofs.Common.{◌≡◌, ◌∙◌, ℕ, zero, suc, ◌+◌, ◌<◌, ◌≤◌, Bool, true, false, List, [], ◌∷◌, ◌++◌, length, take, Option, None, Some, refl, ap, sym, arith, length-set, append_assoc}
 use Rattle.std.specs.Prelude.{◌==◌, ◌||◌, ◌&&◌, not, if◌then◌else◌, slice_set}
 use Rattle.std.specs.List.{slice_get}
 use Rattle.std.proofs.Math.ListN.{get_or}
@@ -8,7 +8,8 @@ use Rattle.std.proofs.lemmas.Option.{slice_get-get_or}
 use Rattle.ccr_base.specs.declared.names.Spot.{Spot}
 use Rattle.ccr_base.specs.declared.patterns.Slot.{Slot}
 use Rattle.ccr_base.proofs.Booleans.{and_false, or_assoc}
-use Rattle.ccr_wiring.specs.Repeats.{has_port, are_apart, slot_ports}
+use Rattle.ccr_base.specs.Lists.{has_number, are_apart}
+use Rattle.ccr_wiring.specs.Repeats.{slot_ports}
 use Rattle.ccr_wiring.specs.Takers.{more_for, IsNoted}
 
 -- one list in the place of another
@@ -22,10 +23,6 @@ set_at (other ∷ lists) (suc k) (suc n) list low = set_at lists k n list (omega
 nothing_more : (list : List Spot) → list ++ [] ≡ list
 nothing_more [] = refl
 nothing_more (spot ∷ list) = ap (λ l. spot ∷ l) (nothing_more list)
-
-append_assoc : (xs ys zs : List Spot) → (xs ++ ys) ++ zs ≡ xs ++ (ys ++ zs)
-append_assoc [] ys zs = refl
-append_assoc (x ∷ xs) ys zs = ap (λ l. x ∷ l) (append_assoc xs ys zs)
 
 -- the spot at the end of the list of one number
 pub noted_one : (lists : List (List Spot)) (k : ℕ) (spot : Spot) (d now : List Spot) → k < length lists → now ≡ get_or lists k d ++ spot ∷ [] → IsNoted (λ n. k == n) spot lists (slice_set lists k now)
@@ -73,42 +70,42 @@ noted_or p q r spot old mid new both apart first second = record {
     of_tests false b apart = refl
 
 -- the ports up to one more
-any_more : (ports : List ℕ) (i port n : ℕ) → slice_get ports i ≡ Some port → has_port (take (suc i) ports) n ≡ has_port (take i ports) n || (port == n)
+any_more : (ports : List ℕ) (i port n : ℕ) → slice_get ports i ≡ Some port → has_number (take (suc i) ports) n ≡ has_number (take i ports) n || (port == n)
 any_more [] i port n there = grind (arith, there)
 any_more (other ∷ ports) zero port n there = grind (arith, there)
-any_more (other ∷ ports) (suc i) port n there = ap (λ b. (other == n) || b) (any_more ports i port n there) ∙ or_assoc (other == n) (has_port (take i ports) n) (port == n)
+any_more (other ∷ ports) (suc i) port n there = ap (λ b. (other == n) || b) (any_more ports i port n there) ∙ or_assoc (other == n) (has_number (take i ports) n) (port == n)
 
 -- a number that comes later isn't among those before it
-never_before : (ports : List ℕ) (i port : ℕ) → are_apart ports ≡ true → slice_get ports i ≡ Some port → has_port (take i ports) port ≡ false
+never_before : (ports : List ℕ) (i port : ℕ) → are_apart ports ≡ true → slice_get ports i ≡ Some port → has_number (take i ports) port ≡ false
 never_before [] i port apart there = grind (arith, there)
 never_before (other ∷ ports) zero port apart there = refl
 never_before (other ∷ ports) (suc i) port apart there = of_test (other == port) refl (never_before ports i port (grind (arith, apart)) there)
   where
-    found : (ports : List ℕ) (i port : ℕ) → slice_get ports i ≡ Some port → has_port ports port ≡ true
+    found : (ports : List ℕ) (i port : ℕ) → slice_get ports i ≡ Some port → has_number ports port ≡ true
     found [] i port there = grind (arith, there)
     found (other ∷ ports) zero port there = grind (arith, nat_tests, there)
     found (other ∷ ports) (suc i) port there = let rest = found ports i port there in grind (arith, rest)
 
-    of_test : (b : Bool) → (other == port) ≡ b → has_port (take i ports) port ≡ false → b || has_port (take i ports) port ≡ false
+    of_test : (b : Bool) → (other == port) ≡ b → has_number (take i ports) port ≡ false → b || has_number (take i ports) port ≡ false
     of_test true same rest =
         let one : other ≡ port = grind (arith, nat_tests, same) in
-        let among : has_port ports other ≡ true = ap (λ n. has_port ports n) one ∙ found ports i port there in
+        let among : has_number ports other ≡ true = ap (λ n. has_number ports n) one ∙ found ports i port there in
         grind (arith, apart, among)
     of_test false differs rest = rest
 
-pub slots_next : (ports : List ℕ) (i port : ℕ) (spot : Spot) (old mid new : List (List Spot)) → are_apart ports ≡ true → slice_get ports i ≡ Some port → IsNoted (has_port (take i ports)) spot old mid → IsNoted (λ n. port == n) spot mid new → IsNoted (has_port (take (suc i) ports)) spot old new
+pub slots_next : (ports : List ℕ) (i port : ℕ) (spot : Spot) (old mid new : List (List Spot)) → are_apart ports ≡ true → slice_get ports i ≡ Some port → IsNoted (has_number (take i ports)) spot old mid → IsNoted (λ n. port == n) spot mid new → IsNoted (has_number (take (suc i) ports)) spot old new
 slots_next ports i port spot old mid new apart there first second =
-    noted_or (has_port (take i ports)) (λ n. port == n) (has_port (take (suc i) ports)) spot old mid new (λ n. any_more ports i port n there) (λ n. once n (port == n) refl) first second
+    noted_or (has_number (take i ports)) (λ n. port == n) (has_number (take (suc i) ports)) spot old mid new (λ n. any_more ports i port n there) (λ n. once n (port == n) refl) first second
   where
-    once : (n : ℕ) (b : Bool) → (port == n) ≡ b → has_port (take i ports) n && b ≡ false
+    once : (n : ℕ) (b : Bool) → (port == n) ≡ b → has_number (take i ports) n && b ≡ false
     once n true same =
         let one : port ≡ n = grind (arith, nat_tests, same) in
-        let never : has_port (take i ports) n ≡ false = ap (λ m. has_port (take i ports) m) (sym one) ∙ never_before ports i port apart there in
+        let never : has_number (take i ports) n ≡ false = ap (λ m. has_number (take i ports) m) (sym one) ∙ never_before ports i port apart there in
         rw never refl
-    once n false differs = and_false (has_port (take i ports) n)
+    once n false differs = and_false (has_number (take i ports) n)
 
 -- the same of the port of a slot
-pub slot_next : (slots : List Slot) (i : ℕ) (d : Slot) (spot : Spot) (old mid new : List (List Spot)) → are_apart (slot_ports slots) ≡ true → i < length slots → IsNoted (has_port (take i (slot_ports slots))) spot old mid → IsNoted (λ n. (get_or slots i d).port == n) spot mid new → IsNoted (has_port (take (i + 1) (slot_ports slots))) spot old new
+pub slot_next : (slots : List Slot) (i : ℕ) (d : Slot) (spot : Spot) (old mid new : List (List Spot)) → are_apart (slot_ports slots) ≡ true → i < length slots → IsNoted (has_number (take i (slot_ports slots))) spot old mid → IsNoted (λ n. (get_or slots i d).port == n) spot mid new → IsNoted (has_number (take (i + 1) (slot_ports slots))) spot old new
 slot_next slots i d spot old mid new apart low first second = rw (next i) (slots_next (slot_ports slots) i (get_or slots i d).port spot old mid new apart (there slots i low) first second)
   where
     next : (i : ℕ) → i + 1 ≡ suc i
@@ -120,8 +117,8 @@ slot_next slots i d spot old mid new apart low first second = rw (next i) (slots
     there (slot ∷ slots) (suc i) low = there slots i (omega (arith, low))
 
 -- the two ports of a gather
-pub gather_noted : (a b : ℕ) (spot : Spot) (old mid new : List (List Spot)) → not (a == b) ≡ true → IsNoted (λ n. a == n) spot old mid → IsNoted (λ n. b == n) spot mid new → IsNoted (has_port (a ∷ b ∷ [])) spot old new
-gather_noted a b spot old mid new differ first second = noted_or (λ n. a == n) (λ n. b == n) (has_port (a ∷ b ∷ [])) spot old mid new (λ n. both (a == n) (b == n)) (λ n. once n (a == n) (b == n) refl refl) first second
+pub gather_noted : (a b : ℕ) (spot : Spot) (old mid new : List (List Spot)) → not (a == b) ≡ true → IsNoted (λ n. a == n) spot old mid → IsNoted (λ n. b == n) spot mid new → IsNoted (has_number (a ∷ b ∷ [])) spot old new
+gather_noted a b spot old mid new differ first second = noted_or (λ n. a == n) (λ n. b == n) (has_number (a ∷ b ∷ [])) spot old mid new (λ n. both (a == n) (b == n)) (λ n. once n (a == n) (b == n) refl refl) first second
   where
     both : (p q : Bool) → p || (q || false) ≡ p || q
     both true q = refl

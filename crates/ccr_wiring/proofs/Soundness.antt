@@ -13,6 +13,7 @@ use Rattle.ccr_base.specs.declared.patterns.Pattern.{Pattern}
 use Rattle.ccr_base.specs.declared.patterns.Pattern.TheVariants.{Slots, Gather}
 use Rattle.ccr_base.specs.declared.patterns.Slot.{Slot}
 use Rattle.ccr_base.proofs.Booleans.{not_refuted}
+use Rattle.ccr_base.specs.Lists.{are_apart}
 use Rattle.ccr_wiring.specs.declared.parts.ArbiterPart.{ArbiterPart}
 use Rattle.ccr_wiring.specs.declared.parts.BranchPart.{BranchPart}
 use Rattle.ccr_wiring.specs.declared.parts.CausePart.{CausePart}
@@ -23,7 +24,7 @@ use Rattle.ccr_wiring.specs.declared.parts.Parts.{Parts}
 use Rattle.ccr_wiring.specs.Wirings.{Placement, placement, placements, placements_of, placements_from, in_domain, actions_of, exception_port, awaited, site_port}
 use Rattle.ccr_wiring.specs.Groups.{may_have, has_strange_group}
 use Rattle.ccr_wiring.specs.References.{is_beyond, has_beyond, no_port, no_cause, action_is_dangling, slots_are_dangling, pattern_is_dangling, branch_is_dangling, post_is_dangling, handler_is_dangling, cause_is_dangling, poster_is_dangling, has_dangling, has_dangling_set, has_dangling_cause, has_dangling_handler, has_dangling_arbiter, has_dangling_poster, has_dangling_domain}
-use Rattle.ccr_wiring.specs.Repeats.{are_apart, slot_ports, names_ports_once, branch_repeats, post_repeats, poster_repeats, has_repeating_set, has_repeating_arbiter, has_repeating_poster, has_repeating_domain}
+use Rattle.ccr_wiring.specs.Repeats.{slot_ports, names_ports_once, branch_repeats, post_repeats, poster_repeats, has_repeating_set, has_repeating_arbiter, has_repeating_poster, has_repeating_domain}
 use Rattle.ccr_wiring.specs.Limits.{is_outside, slot_is_outside, pattern_is_outside, branch_is_outside, has_branches_above, has_posts_above, has_outside}
 use Rattle.ccr_wiring.specs.Spots.{pattern_ports, times, named_ports, has_crowded}
 use Rattle.ccr_wiring.specs.Valid.{IsValid, IsSound, IsSmall, IsSlotFilled, IsPatternFilled, IsActionNamed, IsPostNamed}

@@ -64,6 +64,12 @@ all_drop_suc (first ∷ arbiters) (suc i) arbiter below is = all_drop_suc arbite
 pub all_drop : (arbiters : List ArbiterPart) (i : ℕ) (arbiter : ArbiterPart) → i < length arbiters → arbiter ≡ get_or arbiters i arbiter → all_branches (drop i arbiters) ≡ arbiter.branches ++ all_branches (drop (i + 1) arbiters)
 all_drop arbiters i arbiter below is = let e : i + 1 ≡ suc i = omega arith in rw e (all_drop_suc arbiters i arbiter below is)
 
+-- the spots so far and those of the arbiters that are left are all, and so are the branches by number
+abbrev pub SpotsLeft : Parts → List ArbiterPart → List ArbiterPart → ℕ → List Spot → List Spot → Type 0
+SpotsLeft parts all left number before now =
+    (now ++ branch_spots parts number (all_branches left) ≡ before ++ branch_spots parts 0 (all_branches all))
+    × (number + length (all_branches left) ≡ length (all_branches all))
+
 -- one arbiter's spots are listed, and those that follow stay
 pub spots_next : (parts : Parts) (number : ℕ) (front whole : List Spot) (branches rest : List BranchPart) → front ++ branch_spots parts number (branches ++ rest) ≡ whole → (front ++ branch_spots parts number branches) ++ branch_spots parts (number + length branches) rest ≡ whole
 spots_next parts number front whole branches rest all =

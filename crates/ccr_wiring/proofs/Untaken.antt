@@ -7,9 +7,9 @@ use Rattle.std.proofs.lemmas.Bool.Decides.{nat_tests}
 use Rattle.ccr_base.specs.declared.names.Spot.{Spot}
 use Rattle.ccr_base.specs.declared.names.Spot.TheVariants.{Branch, Site}
 use Rattle.ccr_wiring.specs.declared.parts.Parts.{Parts}
-use Rattle.ccr_wiring.specs.Repeats.{has_port}
 use Rattle.ccr_wiring.specs.Spots.{pattern_ports}
 use Rattle.std.proofs.lemmas.Option.{slice_get_past}
+use Rattle.ccr_base.specs.Lists.{has_number}
 use Rattle.ccr_wiring.specs.Takers.{takes_from, spots_at, is_for, branches_of, AreListed}
 use Rattle.ccr_wiring.specs.Valid.{IsValid}
 use Rattle.ccr_wiring.specs.Wirings.{Placement, placement, site_port, spots}
@@ -20,7 +20,7 @@ none_pass test [] never = refl
 none_pass test (spot ∷ seen) never = rw (never spot) (none_pass test seen never)
 
 -- numbers below the bound don't have one that isn't
-below : (ports : List ℕ) (bound port : ℕ) → ((index other : ℕ) → slice_get ports index ≡ Some other → other < bound) → bound ≤ port → has_port ports port ≡ false
+below : (ports : List ℕ) (bound port : ℕ) → ((index other : ℕ) → slice_get ports index ≡ Some other → other < bound) → bound ≤ port → has_number ports port ≡ false
 below [] bound port low past = refl
 below (other ∷ ports) bound port low past =
     let first = low zero other refl in
@@ -33,7 +33,7 @@ untaken wiring port valid past = none_pass (takes_from wiring port) (spots wirin
     at : (spot : Spot) → takes_from wiring port spot ≡ false
     at (Branch branch) = of_branch (placement wiring branch) refl
       where
-        of_branch : (found : Option Placement) → placement wiring branch ≡ found → option_map_or (λ (s : Placement). has_port (pattern_ports s.branch.pattern) port) found false ≡ false
+        of_branch : (found : Option Placement) → placement wiring branch ≡ found → option_map_or (λ (s : Placement). has_number (pattern_ports s.branch.pattern) port) found false ≡ false
         of_branch None is = refl
         of_branch (Some s) is = below (pattern_ports s.branch.pattern) (length wiring.ports) port (λ index other. (sound wiring valid).pattern_ports branch s index other is) past
     at (Site branch site) = of_site (site_port wiring branch site) refl

@@ -10,6 +10,7 @@ pub mod Compact
 pub mod Spots
 pub mod SpotWords
 pub mod Takers
+pub mod Actors
 pub mod Placements
 pub mod Codes
 pub mod Valid

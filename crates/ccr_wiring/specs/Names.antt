@@ -43,7 +43,9 @@ poster_names parts = map (λ (part : PosterPart). part.name) parts
 
 -- every name that the parts declare
 abbrev pub declared_names : Parts → List (List ℕ)
-declared_names parts = queue_names parts.queues ++ parts.ports ++ set_names parts.sets ++ cause_names parts.causes ++ handler_names parts.handlers ++ flat_map arbiter_names parts.arbiters ++ poster_names parts.posters
+declared_names parts =
+    queue_names parts.queues ++ parts.ports ++ set_names parts.sets ++ cause_names parts.causes
+    ++ handler_names parts.handlers ++ flat_map arbiter_names parts.arbiters ++ poster_names parts.posters
 
 -- whether the name is among the names
 abbrev pub has_name : List (List ℕ) → List ℕ → Bool

@@ -1,25 +1,17 @@
 -- A port twice in one pattern or set, a cause twice in one post, an Interleave twice in the domains.
-use Rattle.std.specs.Prelude.{ℕ, Bool, true, not, ◌==◌, ◌&&◌, ◌||◌, List, [], ◌∷◌, map, flat_map}
+use Rattle.std.specs.Prelude.{ℕ, Bool, not, ◌==◌, ◌||◌, List, map, flat_map}
 use Rattle.std.specs.List.{list_any}
 use Rattle.ccr_base.specs.declared.messages.Sent.{Sent}
 use Rattle.ccr_base.specs.declared.patterns.Pattern.{Pattern}
 use Rattle.ccr_base.specs.declared.patterns.Pattern.TheVariants.{Slots, Gather}
 use Rattle.ccr_base.specs.declared.patterns.Slot.{Slot}
+use Rattle.ccr_base.specs.Lists.{are_apart}
 use Rattle.ccr_wiring.specs.declared.parts.ArbiterPart.{ArbiterPart}
 use Rattle.ccr_wiring.specs.declared.parts.BranchPart.{BranchPart}
 use Rattle.ccr_wiring.specs.declared.parts.PosterPart.{PosterPart}
 use Rattle.ccr_wiring.specs.declared.parts.SetPart.{SetPart}
 use Rattle.ccr_wiring.specs.declared.parts.DomainPart.{DomainPart}
 use Rattle.ccr_wiring.specs.declared.parts.Parts.{Parts}
-
--- whether the port is among the ports
-abbrev pub has_port : List ℕ → ℕ → Bool
-has_port ports port = list_any (λ other. other == port) ports
-
--- whether no number stands twice
-abbrev pub are_apart : List ℕ → Bool
-are_apart [] = true
-are_apart (port ∷ ports) = not (has_port ports port) && are_apart ports
 
 -- the ports of slots
 abbrev pub slot_ports : List Slot → List ℕ

@@ -1,6 +1,7 @@
 -- Which ports the spots name.
 use Rattle.std.specs.Prelude.{ℕ, ◌+◌, Bool, ◌==◌, nat_lt, List, [], ◌∷◌, ◌++◌, flat_map, count_by}
 use Rattle.std.specs.List.{list_any}
+use Rattle.ccr_base.specs.Bounds.{most_spots}
 use Rattle.ccr_base.specs.declared.names.Spot.{Spot}
 use Rattle.ccr_base.specs.declared.names.Spot.TheVariants.{Branch}
 use Rattle.ccr_base.specs.declared.patterns.Pattern.{Pattern}
@@ -38,7 +39,7 @@ times port ports = count_by (λ other. other == port) ports
 
 -- whether some port stands there more than 16 times
 abbrev pub has_crowded : List ℕ → Bool
-has_crowded ports = list_any (λ port. nat_lt 16 (times port ports)) ports
+has_crowded ports = list_any (λ port. nat_lt most_spots (times port ports)) ports
 
 -- more than 16 spots name one port
 abbrev pub has_crowded_port : Parts → Bool

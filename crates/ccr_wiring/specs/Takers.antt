@@ -4,14 +4,14 @@ use Rattle.std.specs.List.{slice_get}
 use Rattle.std.specs.Option.{option_map_or}
 use Rattle.ccr_base.specs.declared.names.Spot.{Spot}
 use Rattle.ccr_base.specs.declared.names.Spot.TheVariants.{Branch, Site}
+use Rattle.ccr_base.specs.Lists.{has_number}
 use Rattle.ccr_wiring.specs.declared.parts.Parts.{Parts}
-use Rattle.ccr_wiring.specs.Repeats.{has_port}
 use Rattle.ccr_wiring.specs.Spots.{pattern_ports}
 use Rattle.ccr_wiring.specs.Wirings.{Placement, placement, site_port, spots}
 
 -- whether a firing at the spot takes messages of the port: its pattern names the port, or the site awaits it
 abbrev pub takes_from : Parts → ℕ → Spot → Bool
-takes_from wiring port (Branch branch) = option_map_or (λ (s : Placement). has_port (pattern_ports s.branch.pattern) port) (placement wiring branch) false
+takes_from wiring port (Branch branch) = option_map_or (λ (s : Placement). has_number (pattern_ports s.branch.pattern) port) (placement wiring branch) false
 takes_from wiring port (Site branch site) = option_map_or (λ other. other == port) (site_port wiring branch site) false
 
 -- the spots that take from the port

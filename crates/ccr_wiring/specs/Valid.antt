@@ -1,12 +1,14 @@
 -- Valid wirings, and what they promise.
 use Rattle.std.specs.Prelude.{◌≡◌, ◌<◌, ◌≤◌, ℕ, true, length, Some, None, IsSomeAnd}
 use Rattle.std.specs.List.{slice_get}
+use Rattle.ccr_base.specs.Bounds.{most_actions, most_arbiters, most_branches, most_causes, most_count, most_handlers, most_ports, most_posters, most_queues, most_script_posts, most_sets, most_slots, most_spots, most_task_posts}
 use Rattle.ccr_base.specs.declared.handlers.Action.{Action}
 use Rattle.ccr_base.specs.declared.handlers.Action.TheVariants.{Post, Fail, Add, Remove, Await}
 use Rattle.ccr_base.specs.declared.messages.Sent.{Sent}
 use Rattle.ccr_base.specs.declared.patterns.Pattern.{Pattern}
 use Rattle.ccr_base.specs.declared.patterns.Pattern.TheVariants.{Slots, Gather}
 use Rattle.ccr_base.specs.declared.patterns.Slot.{Slot}
+use Rattle.ccr_base.specs.Lists.{are_apart}
 use Rattle.ccr_wiring.specs.declared.parts.Parts.{Parts}
 use Rattle.ccr_wiring.specs.declared.parts.PosterPart.{PosterPart}
 use Rattle.ccr_wiring.specs.declared.parts.ArbiterPart.{ArbiterPart}
@@ -14,9 +16,8 @@ use Rattle.ccr_wiring.specs.Wirings.{Placement, placement, placements, actions_o
 use Rattle.ccr_wiring.specs.Codes.{code_of}
 use Rattle.ccr_wiring.specs.Groups.{may_have}
 use Rattle.ccr_wiring.specs.Limits.{posts_in_all}
-use Rattle.ccr_wiring.specs.Repeats.{are_apart, names_ports_once}
 use Rattle.ccr_wiring.specs.Spots.{pattern_ports, times, named_ports}
-pub use Rattle.ccr_wiring.specs.Repeats.{has_port, are_apart, slot_ports, names_ports_once}
+pub use Rattle.ccr_wiring.specs.Repeats.{slot_ports, names_ports_once}
 
 -- no code stands in the parts
 abbrev pub IsValid : Parts → Type 0
@@ -44,12 +45,12 @@ HasPatternPorts wiring = (branch : ℕ) (s : Placement) (index port : ℕ) → p
 
 -- a slot takes 1 to 1,000 messages, no more and no fewer
 abbrev pub IsSlotFilled : Slot → Type 0
-IsSlotFilled slot = (slot.least ≡ slot.most) × (0 < slot.least) × (slot.least ≤ 1000)
+IsSlotFilled slot = (slot.least ≡ slot.most) × (0 < slot.least) × (slot.least ≤ most_count)
 
 -- a pattern takes at least one message: it has 1 to 8 slots, or is a gather of 1 to 1,000
 abbrev pub IsPatternFilled : Pattern → Type 0
-IsPatternFilled (Slots slots) = (0 < length slots) × (length slots ≤ 8) × ((index : ℕ) (slot : Slot) → slice_get slots index ≡ Some slot → IsSlotFilled slot)
-IsPatternFilled (Gather total first second) = (0 < total) × (total ≤ 1000)
+IsPatternFilled (Slots slots) = (0 < length slots) × (length slots ≤ most_slots) × ((index : ℕ) (slot : Slot) → slice_get slots index ≡ Some slot → IsSlotFilled slot)
+IsPatternFilled (Gather total first second) = (0 < total) × (total ≤ most_count)
 
 -- each branch takes at least one message
 abbrev pub HasPatternsFilled : Parts → Type 0
@@ -73,7 +74,7 @@ HasSitePorts wiring = (branch site port : ℕ) → site_port wiring branch site 
 
 -- a handler has at most 16 actions
 abbrev pub HasFewActions : Parts → Type 0
-HasFewActions wiring = (handler : ℕ) → length (actions_of wiring handler) ≤ 16
+HasFewActions wiring = (handler : ℕ) → length (actions_of wiring handler) ≤ most_actions
 
 -- each exception port is one of the wiring's
 abbrev pub HasExceptionPorts : Parts → Type 0
@@ -91,7 +92,7 @@ HasScriptsNamed wiring = (poster index : ℕ) (part : PosterPart) (post : Sent) 
 
 -- at most 16 spots name one port
 abbrev pub HasFewSpots : Parts → Type 0
-HasFewSpots wiring = (port : ℕ) → times port (named_ports wiring) ≤ 16
+HasFewSpots wiring = (port : ℕ) → times port (named_ports wiring) ≤ most_spots
 
 -- each branch's domain is the number of an arbiter of the kind of its own
 abbrev pub HasDomains : Parts → Type 0
@@ -99,16 +100,16 @@ HasDomains wiring = (branch : ℕ) (s : Placement) → placement wiring branch �
 
 -- how many of each kind there are at most
 pub record IsSmall (wiring : Parts) : Type 0 where
-  pub budget : wiring.budget ≤ 10000
-  pub queues : length wiring.queues ≤ 16
-  pub ports : length wiring.ports ≤ 256
-  pub sets : length wiring.sets ≤ 64
-  pub causes : length wiring.causes ≤ 32
-  pub handlers : length wiring.handlers ≤ 256
-  pub arbiters : length wiring.arbiters ≤ 256
-  pub branches : length (placements wiring) ≤ 256
-  pub posters : length wiring.posters ≤ 16
-  pub posts : posts_in_all wiring.posters ≤ 10000
+  pub budget : wiring.budget ≤ most_task_posts
+  pub queues : length wiring.queues ≤ most_queues
+  pub ports : length wiring.ports ≤ most_ports
+  pub sets : length wiring.sets ≤ most_sets
+  pub causes : length wiring.causes ≤ most_causes
+  pub handlers : length wiring.handlers ≤ most_handlers
+  pub arbiters : length wiring.arbiters ≤ most_arbiters
+  pub branches : length (placements wiring) ≤ most_branches
+  pub posters : length wiring.posters ≤ most_posters
+  pub posts : posts_in_all wiring.posters ≤ most_script_posts
 
 -- what every valid wiring promises
 pub record IsSound (wiring : Parts) : Type 0 where

@@ -13,8 +13,10 @@ use Rattle.ccr_wiring.specs.declared.parts.QueuePart.{QueuePart}
 use Rattle.ccr_base.specs.declared.policies.Policy.{Policy}
 use Rattle.ccr_base.specs.declared.policies.Policy.TheVariants.{Unbounded}
 use Rattle.ccr_wiring.specs.declared.parts.Kind.{Kind}
+use Rattle.ccr_wiring.specs.declared.parts.Kind.TheVariants as kinds
 use Rattle.ccr_wiring.specs.declared.parts.DomainPart.{DomainPart}
 use Rattle.ccr_wiring.specs.Domains.{domain_of}
+use Rattle.ccr_wiring.specs.Groups.{is_interleave}
 
 -- a branch with the number of its domain and the kind of its arbiter
 pub record Placement : Type 0 where
@@ -42,6 +44,14 @@ placements wiring = map (in_domain wiring.domains) (placements_from 0 wiring.arb
 -- the branch of this number
 abbrev pub placement : Parts → ℕ → Option Placement
 placement wiring branch = slice_get (placements wiring) branch
+
+-- the arbiter's kind; a number that names no arbiter counts as an Interleave, and has no branches
+abbrev pub kind_of : Parts → ℕ → Kind
+kind_of wiring arbiter = option_map_or (λ (part : ArbiterPart). part.kind) (slice_get wiring.arbiters arbiter) kinds.Interleave
+
+-- whether the domain of this number is of Interleaves: so is the arbiter of its number, the least of the domain
+abbrev pub is_interleave_number : Parts → ℕ → Bool
+is_interleave_number wiring arbiter = option_map_or (λ (part : ArbiterPart). is_interleave part.kind) (slice_get wiring.arbiters arbiter) false
 
 -- the queue's policy; a number that names no queue counts as an unbounded one
 abbrev pub policy_of : Parts → ℕ → Policy

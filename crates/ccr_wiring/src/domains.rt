@@ -1,10 +1,10 @@
 //! Domains: the Interleaves that share one protection.
 
 ghost use Rattle.std.specs.Prelude.{◌≡◌};
-ghost use Rattle.ccr_wiring.specs.Repeats.{has_port};
 ghost use Rattle.ccr_wiring.specs.Domains.{least_with, domain_of};
 
 use crate::DomainPart;
+use crate::repeats::has_number;
 use ccr_base::ArbiterNo;
 
 /// The least of the number and these.
@@ -18,18 +18,12 @@ fn least_with(first: ArbiterNo, numbers: &[ArbiterNo]) -> ArbiterNo
     least
 }
 
-fn has_member(members: &[ArbiterNo], arbiter: ArbiterNo) -> bool
-    ensures { result ≡ has_port members.now arbiter }
-{
-    members.contains(&arbiter)
-}
-
 pub(crate) fn domain_of(domains: &[DomainPart], arbiter: ArbiterNo) -> ArbiterNo
     ensures { result ≡ domain_of domains.now arbiter }
 {
     for domain in domains {
         let members = domain.members.as_slice();
-        if has_member(members, arbiter) {
+        if has_number(members, arbiter) {
             return least_with(arbiter, members);
         }
     }

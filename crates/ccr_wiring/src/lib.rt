@@ -23,7 +23,7 @@ mod wiring;
 pub use laws::valid_wirings_are_sound;
 pub use limits::{
     MAX_ACTIONS, MAX_ACTOR, MAX_ARBITERS, MAX_ARG, MAX_BRANCHES, MAX_BUDGET, MAX_CAUSES, MAX_COUNT,
-    MAX_DOMAINS, MAX_HANDLERS, MAX_MEMBERS, MAX_PLACE, MAX_POLICY, MAX_PORTS, MAX_POSTERS,
+    MAX_DOMAINS, MAX_HANDLERS, MAX_INDEX, MAX_MEMBERS, MAX_POLICY, MAX_PORTS, MAX_POSTERS,
     MAX_QUEUES, MAX_SCRIPT_POSTS, MAX_SET_PORTS, MAX_SETS, MAX_SLOTS, MAX_SPOTS,
 };
 pub use parts::{
@@ -31,8 +31,8 @@ pub use parts::{
     QueuePart, SetPart,
 };
 pub use placements::PlacementOf;
-pub use references::is_interleave;
-pub use repeats::{are_apart, has_slot_at};
+pub use references::{is_interleave, no_interleave};
+pub use repeats::{are_apart, has_number, has_slot_at};
 pub use script_posts::ScriptPost;
 pub use spot_names::{branch_names, name_at};
 pub use spot_words::{put_spot_word, spot_text};

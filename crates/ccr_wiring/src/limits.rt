@@ -2,7 +2,7 @@
 
 ghost use Rattle.std.specs.Prelude.{◌≡◌};
 ghost use Rattle.std.specs.List.{list_any};
-ghost use Rattle.ccr_wiring.specs.Limits.{is_outside, policy_is_outside, expr_is_outside, action_is_outside, slot_is_outside, slots_are_outside, pattern_is_outside, handler_is_outside, branch_is_outside, arbiter_is_outside, queue_is_outside, set_is_outside, has_branches_above, has_posts_above, has_too_many, has_outside_queue, has_outside_set, has_outside_handler, has_outside_arbiter, domain_is_outside, has_outside_domain, has_outside};
+ghost use Rattle.ccr_wiring.specs.Limits.{policy_is_outside, expr_is_outside, action_is_outside, slot_is_outside, slots_are_outside, pattern_is_outside, handler_is_outside, branch_is_outside, arbiter_is_outside, queue_is_outside, set_is_outside, has_branches_above, has_posts_above, has_too_many, has_outside_queue, has_outside_set, has_outside_handler, has_outside_arbiter, domain_is_outside, has_outside_domain, has_outside};
 
 use crate::{
     ArbiterPart, BranchPart, DomainPart, HandlerPart, Parts, PosterPart, QueuePart, SetPart,
@@ -41,8 +41,8 @@ pub const MAX_COUNT: u32 = 1_000;
 pub const MAX_POLICY: u32 = 1_000;
 /// The number of a message of a task, in an expression.
 pub const MAX_ARG: u32 = 65_535;
-/// The place of a number in its value, in an expression.
-pub const MAX_PLACE: u32 = 7;
+/// The index of a number in its value, in an expression.
+pub const MAX_INDEX: u32 = 7;
 
 pub const MAX_POSTERS: usize = 16;
 /// The largest number of an actor: posters come first, then at most 16 workers, then who finishes the run.
@@ -66,7 +66,7 @@ fn expr_is_outside(expr: Expr) -> bool
 {
     match expr {
         Expr::Arg(k) => k > MAX_ARG,
-        Expr::Part(k, place) => k > MAX_ARG || place > MAX_PLACE,
+        Expr::Part(k, index) => k > MAX_ARG || index > MAX_INDEX,
         Expr::Number(_) | Expr::Sum | Expr::Count => false,
     }
 }

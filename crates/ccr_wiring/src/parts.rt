@@ -1,4 +1,4 @@
-//! The parts of a wiring, as plain data. A number that names a part is its place among its kind, from 0.
+//! The parts of a wiring, as plain data. A number that names a part is its index among its kind, from 0.
 
 use crate::script_posts::ScriptPost;
 use ccr_base::{

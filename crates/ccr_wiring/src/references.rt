@@ -1,7 +1,6 @@
 //! Numbers that name nothing.
 
-ghost use Rattle.std.specs.Prelude.{◌≡◌, length};
-ghost use Rattle.std.specs.List.{list_any};
+ghost use Rattle.std.specs.Prelude.{◌≡◌};
 ghost use Rattle.ccr_wiring.specs.References.{is_beyond, has_beyond, no_port, no_cause, action_is_dangling, pattern_is_dangling, slots_are_dangling, branch_is_dangling, post_is_dangling, set_is_dangling, cause_is_dangling, handler_is_dangling, arbiter_is_dangling, poster_is_dangling, has_dangling, has_dangling_set, has_dangling_cause, has_dangling_handler, has_dangling_arbiter, has_dangling_poster, no_interleave, domain_is_dangling, has_dangling_domain};
 ghost use Rattle.ccr_wiring.specs.Groups.{is_interleave};
 
@@ -174,7 +173,8 @@ pub fn is_interleave(kind: Kind) -> bool
     }
 }
 
-fn no_interleave(parts: &Parts, number: ArbiterNo) -> bool
+/// Whether the number names no Interleave.
+pub fn no_interleave(parts: &Parts, number: ArbiterNo) -> bool
     ensures { result ≡ no_interleave parts.now number }
 {
     match parts.arbiters.as_slice().get(number as usize) {

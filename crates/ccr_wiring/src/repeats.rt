@@ -1,15 +1,17 @@
 //! Ports that stand twice in a pattern or a set, causes that stand twice in a post, Interleaves that stand twice in the domains.
 
 ghost use Rattle.std.specs.Prelude.{◌≡◌, ◌++◌, IfOk, OnOk};
-ghost use Rattle.ccr_wiring.specs.Repeats.{has_port, are_apart, are_slots_apart, slot_ports, names_ports_once, branch_repeats, arbiter_repeats, set_repeats, post_repeats, poster_repeats, has_repeating_set, has_repeating_arbiter, has_repeating_poster, members_in_all, has_repeating_domain, has_repeat};
+ghost use Rattle.ccr_base.specs.Lists.{has_number, are_apart};
+ghost use Rattle.ccr_wiring.specs.Repeats.{are_slots_apart, slot_ports, names_ports_once, branch_repeats, arbiter_repeats, set_repeats, post_repeats, poster_repeats, has_repeating_set, has_repeating_arbiter, has_repeating_poster, members_in_all, has_repeating_domain, has_repeat};
 
 use crate::script_posts::ScriptPost;
 use crate::{ArbiterPart, BranchPart, DomainPart, Parts, PosterPart, SetPart};
 use ccr_base::{ArbiterNo, OutOfMemory, Pattern, PortNo, Slot};
 use std::alloc::Global;
 
-fn has_number(numbers: &[u32], number: u32) -> bool
-    ensures { result ≡ has_port numbers.now number }
+/// Whether the number is among them.
+pub fn has_number(numbers: &[u32], number: u32) -> bool
+    ensures { result ≡ has_number numbers.now number }
 {
     numbers.contains(&number)
 }
@@ -28,7 +30,7 @@ pub fn are_apart(numbers: &[u32]) -> bool
 
 /// Whether one of the slots names the port.
 pub fn has_slot_at(slots: &[Slot], port: PortNo) -> bool
-    ensures { result ≡ has_port (slot_ports slots.now) port }
+    ensures { result ≡ has_number (slot_ports slots.now) port }
 {
     for slot in slots {
         if slot.port == port {

@@ -2,7 +2,7 @@
 
 ghost use Rattle.std.specs.Prelude.{◌≡◌, [], ◌∷◌, IfOk, IfSome};
 
-use ccr_base::{CauseNo, List, OutOfMemory, PortNo, Sent, Value};
+use ccr_base::{CauseNo, OutOfMemory, PortNo, Sent, Value};
 use std::alloc::Global;
 use std::marker::Model;
 

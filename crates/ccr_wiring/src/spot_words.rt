@@ -1,6 +1,6 @@
 //! The word of a spot.
 
-ghost use Rattle.std.specs.Prelude.{◌≡◌, ◌≤◌, ◌++◌, IfOk, OnErr, OnOk, length, take};
+ghost use Rattle.std.specs.Prelude.{◌≡◌, ◌++◌, IfOk, OnErr, OnOk};
 ghost use Rattle.ccr_text.specs.Spelling.{Grew};
 ghost use Rattle.ccr_wiring.specs.SpotWords.{spot_word};
 

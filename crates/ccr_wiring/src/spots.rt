@@ -1,6 +1,6 @@
 //! The spots of a wiring, and the ports that they name.
 
-ghost use Rattle.std.specs.Prelude.{◌≡◌, false, ◌<◌, ◌≤◌, ◌+◌, ◌^◌, ◌++◌, IfOk, IfSome, IfNone, OnOk, length, map};
+ghost use Rattle.std.specs.Prelude.{◌≡◌, false, ◌<◌, ◌≤◌, ◌+◌, ◌^◌, ◌++◌, IfOk, IfSome, IfNone, OnOk, length};
 ghost use Rattle.ccr_wiring.specs.Wirings.{sites_from, spots, awaited, actions_of, branch_of, segment_of};
 ghost use Rattle.ccr_wiring.specs.Repeats.{slot_ports};
 ghost use Rattle.ccr_wiring.specs.Spots.{pattern_ports, branch_named, branches_named, arbiters_named, named_ports, has_crowded, branch_spots, all_branches};

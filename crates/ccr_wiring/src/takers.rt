@@ -2,7 +2,8 @@
 
 ghost use Rattle.std.specs.Prelude.{◌≡◌, ◌==◌, [], true, Bool, ℕ, slice_get, unwrap_or, IfOk, OnOk};
 ghost use Rattle.ccr_base.specs.declared.names.Spot.{Spot as SpotOf};
-ghost use Rattle.ccr_wiring.specs.Repeats.{has_port, are_slots_apart, names_ports_once, slot_ports};
+ghost use Rattle.ccr_base.specs.Lists.{has_number};
+ghost use Rattle.ccr_wiring.specs.Repeats.{are_slots_apart, names_ports_once, slot_ports};
 ghost use Rattle.ccr_wiring.specs.Spots.{pattern_ports};
 ghost use Rattle.ccr_wiring.specs.Takers.{AreListed, AreTaken, IsNoted, is_for, takes_from};
 ghost use Rattle.ccr_wiring.specs.Valid.{IsValid};
@@ -10,7 +11,7 @@ ghost use Rattle.ccr_wiring.specs.Wirings.{awaited, site_port};
 ghost use Rattle.ccr_wiring.specs.Placements.{positions as positions_of};
 
 use crate::Parts;
-use crate::placements::{PlacementOf, Position, placement_of};
+use crate::placements::{Position, placement_of};
 use crate::spots::actions_of;
 use ccr_base::{Action, BranchNo, List, OutOfMemory, Pattern, PortNo, Slot, Spot};
 use std::alloc::Global;
@@ -47,7 +48,7 @@ fn note(lists: &mut [List<Spot>], number: u32, spot: Spot) -> Result<(), OutOfMe
 /// The spot comes into the lists of the ports of these slots.
 fn note_slots(lists: &mut [List<Spot>], slots: &[Slot], spot: Spot) -> Result<(), OutOfMemory>
     requires { are_slots_apart slots.now ≡ true }
-    ensures { OnOk result (IsNoted (has_port (slot_ports slots.now)) spot lists.old lists.new) }
+    ensures { OnOk result (IsNoted (has_number (slot_ports slots.now)) spot lists.old lists.new) }
 {
     for slot in slots {
         note(lists, slot.port, spot)?;
@@ -58,7 +59,7 @@ fn note_slots(lists: &mut [List<Spot>], slots: &[Slot], spot: Spot) -> Result<()
 /// The spot comes into the lists of the ports of the pattern.
 fn note_pattern(lists: &mut [List<Spot>], pattern: &Pattern, spot: Spot) -> Result<(), OutOfMemory>
     requires { names_ports_once pattern.now ≡ true }
-    ensures { OnOk result (IsNoted (has_port (pattern_ports pattern.now)) spot lists.old lists.new) }
+    ensures { OnOk result (IsNoted (has_number (pattern_ports pattern.now)) spot lists.old lists.new) }
 {
     match pattern {
         Pattern::Slots(slots) => note_slots(lists, slots.as_slice(), spot),

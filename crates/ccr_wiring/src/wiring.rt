@@ -2,9 +2,10 @@
 
 ghost use Rattle.std.specs.Prelude.{◌≡◌, ◌<◌, [], OnOk, IfOk, IfErr, length};
 ghost use Rattle.std.specs.Option.{option_map, option_map_or};
+ghost use Rattle.ccr_wiring.specs.Actors.{is_behind_posters};
 ghost use Rattle.ccr_wiring.specs.Answers.{IsCause};
 ghost use Rattle.ccr_wiring.specs.Placements.{placement_seen};
-ghost use Rattle.ccr_wiring.specs.Wirings.{actions_at, actions_of, placement, policy_of, site_port, spots as spots_of};
+ghost use Rattle.ccr_wiring.specs.Wirings.{actions_at, actions_of, is_interleave_number, kind_of, placement, policy_of, site_port, spots as spots_of};
 ghost use Rattle.ccr_wiring.specs.Takers.{branches_of, spots_at};
 ghost use Rattle.ccr_wiring.specs.Valid.{IsValid};
 ghost use Rattle.ccr_wiring.specs.Domains.{domain_of};
@@ -14,9 +15,10 @@ use crate::domains::domain_of;
 use crate::placements::{Position, all_positions, placement_of};
 use crate::spots::{actions_of, all_spots};
 use crate::takers::{Takers, all_takers, list_of, site_port};
-use crate::{Parts, PlacementOf, Unfit};
+use crate::{Kind, Parts, PlacementOf, Unfit};
 use ccr_base::{
-    Action, ArbiterNo, BranchNo, Handler, HandlerNo, OutOfMemory, Policy, PortNo, QueueNo, Spot,
+    Action, ActorNo, ArbiterNo, BranchNo, Handler, HandlerNo, OutOfMemory, Policy, PortNo, QueueNo,
+    Spot,
 };
 use std::alloc::Global;
 use std::marker::Model;
@@ -25,12 +27,12 @@ use std::marker::Model;
 #[derive(Drop)]
 pub struct Wiring {
     /// Boxed, so that whoever owns a wiring drops one value and not each of its lists.
-    known: Box<Known>,
+    known: Box<LookUps>,
 }
 
 /// The parts, and what is looked up in them.
 #[derive(Drop)]
-struct Known {
+struct LookUps {
     parts: Parts,
     spots: Vec<Spot>,
     /// Where the branch of each number stands.
@@ -73,7 +75,7 @@ impl Wiring {
         let takers = all_takers(alloc, &parts, &positions, &spots)?;
         let known = Box::new(
             alloc,
-            Known {
+            LookUps {
                 parts,
                 spots,
                 positions,
@@ -89,6 +91,33 @@ impl Wiring {
         ensures valid { IsValid self.now }
     {
         &self.known.parts
+    }
+
+    /// Whether the actor is no poster: posters come before all others.
+    pub fn is_behind_posters(&self, actor: ActorNo) -> bool
+        ensures { result ≡ is_behind_posters self.now actor }
+    {
+        self.parts().posters.as_slice().len() <= actor as usize
+    }
+
+    /// The arbiter's kind; a number that names no arbiter counts as an Interleave.
+    pub fn kind_of(&self, arbiter: ArbiterNo) -> Kind
+        ensures { result ≡ kind_of self.now arbiter }
+    {
+        match self.parts().arbiters.as_slice().get(arbiter as usize) {
+            Some(part) => part.kind,
+            None => Kind::Interleave,
+        }
+    }
+
+    /// Whether the domain of this number is of Interleaves.
+    pub fn is_interleave_number(&self, arbiter: ArbiterNo) -> bool
+        ensures { result ≡ is_interleave_number self.now arbiter }
+    {
+        match self.parts().arbiters.as_slice().get(arbiter as usize) {
+            Some(part) => matches!(part.kind, Kind::Interleave),
+            None => false,
+        }
     }
 
     /// The number of the arbiter's domain: the least of the Interleaves that are combined with it; its own where none is.

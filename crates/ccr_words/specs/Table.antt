@@ -28,13 +28,20 @@ abbrev pub number_or : ℕ → ℕ → ℕ → Option Text → Option ℕ
 number_or default low high None = Some default
 number_or default low high (Some text) = number low high text
 
+-- the workers of a run and the posts of a load, where none are given
+abbrev pub usual_workers : ℕ
+usual_workers = 4
+
+abbrev pub usual_size : ℕ
+usual_size = 1000
+
 -- `check` may have --json
 abbrev pub check_request : Option Text → Option Text → Bool → Bool → Option Request
 check_request workers size schedule json = if is_some workers || (is_some size || schedule) then None else Some (Read Check json)
 
 -- `run` may have --workers from 0 to 16, else 4, --schedule and --json
 abbrev pub run_request : Option Text → Option Text → Bool → Bool → Option Request
-run_request workers size schedule json = if is_some size then None else option_map (λ n. Read (Run n schedule) json) (number_or 4 0 16 workers)
+run_request workers size schedule json = if is_some size then None else option_map (λ n. Read (Run n schedule) json) (number_or usual_workers 0 most_workers workers)
 
 -- a word that has no option
 abbrev pub plain_request : Command → Option Text → Option Text → Bool → Bool → Option Request
@@ -42,7 +49,7 @@ plain_request command workers size schedule json = if is_some workers || (is_som
 
 -- the workers of a word that may have --workers alone: from 0 to 16, else 4
 abbrev pub workers_alone : Option Text → Option Text → Bool → Bool → Option ℕ
-workers_alone workers size schedule json = if is_some size || (schedule || json) then None else number_or 4 0 16 workers
+workers_alone workers size schedule json = if is_some size || (schedule || json) then None else number_or usual_workers 0 most_workers workers
 
 -- `record` may have --workers
 abbrev pub record_request : Option Text → Option Text → Bool → Bool → Option Request
@@ -59,7 +66,7 @@ load_of _ _ json = None
 
 -- `load` may have --workers from 0 to 16, else 0, --size from 1 to 10,000, else 1,000, and --json
 abbrev pub load_request : Option Text → Option Text → Bool → Bool → Option Request
-load_request workers size schedule json = if schedule then None else load_of (number_or 0 0 16 workers) (number_or 1000 1 10000 size) json
+load_request workers size schedule json = if schedule then None else load_of (number_or 0 0 most_workers workers) (number_or usual_size 1 most_size size) json
 
 -- a run has at most 16 workers
 abbrev pub HasFewWorkers : Command → Type 0

@@ -7,8 +7,8 @@ ghost use Rattle.ccr_base.specs.Bounds.{most_workers};
 ghost use Rattle.ccr_words.specs.Table.{is_number, number, number_or, check_request, run_request, plain_request, workers_alone, record_request, service_request, load_request, wiring_word, further_word, request_of, HasFewWorkers, IsWithin};
 
 use crate::requests::{Command, Request};
+use ccr_base::MAX_WORKERS;
 
-const MAX_WORKERS: u32 = 16;
 /// The workers of a run that names none.
 const USUAL_WORKERS: u32 = 4;
 /// The posts of a load, at most.

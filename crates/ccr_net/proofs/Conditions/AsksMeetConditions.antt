@@ -40,7 +40,7 @@ use Rattle.ccr_claim.specs.declared.asks.Asked.{Asked}
 use Rattle.ccr_claim.specs.declared.plan.Had.{Had}
 use Rattle.ccr_claim.specs.Plans.{in_pattern, resumes}
 use Rattle.ccr_claim.specs.Attempts.{at_place, Phase, booking, claiming, had_in, attempt_ask}
-use Rattle.ccr_actor.specs.Plans.{plan_of, is_interleave_number, pattern_at}
+use Rattle.ccr_actor.specs.Plans.{plan_of, pattern_at}
 use Rattle.ccr_wiring.specs.Groups.{is_interleave}
 use Rattle.ccr_actor.specs.Actors.{State, Turn, settle, admit, drive, go_on, stop, Work, lines, round, taking, playing, posting, shedding, resting, turn, ask_in, spots_left, name_at, work_ask, play_ask, end_ask, next}
 use Rattle.ccr_runs.specs.declared.entries.Entry.{Entry}
@@ -48,7 +48,7 @@ use Rattle.ccr_runs.specs.Places.{note_of, note_at_arbiter, note_by_kind, port_a
 use Rattle.ccr_runs.specs.EntryRuns.{IsRunAfter, Lacks, notes_at, replies_of, state_of, port_at}
 use Rattle.ccr_runs.specs.Visible.{visible}
 use Rattle.ccr_net.proofs.Parts.StepsKeepActors.{unfired}
-use Rattle.ccr_net.proofs.Kept.WholeInvariant.{meter_at, hand_settles, arbiters_admit, spots_drive}
+use Rattle.ccr_net.proofs.Kept.WholeInvariant.{meter_at, hand_settles, domains_admit, spots_drive}
 use Rattle.ccr_net.proofs.Parts.MeterMatches.{bit, count-some}
 use Rattle.ccr_net.proofs.Parts.PhasesFitPlans.{PhaseFits, Fits, SpotFits}
 use Rattle.ccr_net.proofs.Kept.WhatWiringsHave.{PlainFacts}
@@ -339,9 +339,9 @@ module _ (w : Parts) (valid : IsValid w) (n : ℕ) (lacks : Lacks) (es : List En
           inside u v e = cc
 
       by : (tu : Turn) → turn st ≡ tu → ask_in w a st tu ≡ Some x → Met x
-      by (settle y more) turns now = one y now (settle_met y more (hand_settles st.is_short st.hand st.arbiters (spots_left st) y more turns))
-      by (admit i more) turns now = one _ now (admit_met w i (slice_get w.arbiters i) (notes_at es (places.Arbiter i)) (ready.numbers a i (subst (Among i) (sym (arbiters_admit st.is_short st.hand st.arbiters (spots_left st) i more turns)) (inl refl))))
-      by (drive spot more) turns now = one _ now (drive_met spot more (spots_of_left (nat_lt st.attempt (2 ^ 32)) st.spots spot more (spots_drive st.is_short st.hand st.arbiters (spots_left st) spot more turns).1))
+      by (settle y more) turns now = one y now (settle_met y more (hand_settles st.is_short st.hand st.domains (spots_left st) y more turns))
+      by (admit i more) turns now = one _ now (admit_met w i (slice_get w.arbiters i) (notes_at es (places.Arbiter i)) (ready.numbers a i (subst (Among i) (sym (domains_admit st.is_short st.hand st.domains (spots_left st) i more turns)) (inl refl))))
+      by (drive spot more) turns now = one _ now (drive_met spot more (spots_of_left (nat_lt st.attempt (2 ^ 32)) st.spots spot more (spots_drive st.is_short st.hand st.domains (spots_left st) spot more turns).1))
       by go_on turns now = work_met x st.work refl (ready.holds.actors a).work now
       by stop turns now = absurd (cc)
 

@@ -45,7 +45,7 @@ use Rattle.ccr_net.proofs.Parts.ArbitersMatch.{fired_there, fired_note, kept_sha
 use Rattle.ccr_net.proofs.Kept.WholeInvariant.{Holds}
 use Rattle.ccr_net.proofs.Parts.DomainsMatch.{domain_at, group_so}
 use Rattle.ccr_net.proofs.Parts.PhasesFitPlans.{SpotFits}
-use Rattle.ccr_net.proofs.Conditions.BranchesHaveSeats.{branch_seat}
+use Rattle.ccr_net.proofs.Conditions.BranchesHavePositions.{branch_position}
 
 pub is_given : (b : Bool) (note : Note) → b ≡ true → is_some (given b note) ≡ true
 is_given true note is = refl
@@ -196,7 +196,7 @@ module _ (w : Parts) (valid : IsValid w) (domains : HasDomains w) (n : ℕ) (lac
               count_so = shape.count
 
               seat : arbiters.has_spot now task.spot ≡ true
-              seat = ap (arbiters.has_spot now) spot ∙ (λ i. nat_le (first_so i) b && nat_lt b (first_so i + count_so i)) ∙ branch_seat w valid b s part sits at kind_so outside
+              seat = ap (arbiters.has_spot now) spot ∙ (λ i. nat_le (first_so i) b && nat_lt b (first_so i + count_so i)) ∙ branch_position w valid b s part sits at kind_so outside
 
               none : has_task now.fired task.id ≡ false
               none = ap (λ ts. has_task ts task.id) (shape.fired ∙ ap (λ ts. ts ++ fired_there earlier) (none_at_first (first_branch w s.domain) part)) ∙ fresh

@@ -61,9 +61,9 @@ once_begins pl gone w lacks ok = record {
 no_numbers : (w : Parts) (lacks : Lacks) → AllInterleaves w lacks []
 no_numbers w lacks a = by (begins w lacks a)
   where
-    by : IsBegun w a (state_of w lacks [] a) → AreInterleaves w (state_of w lacks [] a).arbiters
-    by (inl is) = subst (λ (s : State). AreInterleaves w s.arbiters) (sym is) (λ i none. absurd none)
-    by (inr is) = subst (λ (s : State). AreInterleaves w s.arbiters) (sym is) (λ i none. absurd none)
+    by : IsBegun w a (state_of w lacks [] a) → AreInterleaves w (state_of w lacks [] a).domains
+    by (inl is) = subst (λ (s : State). AreInterleaves w s.domains) (sym is) (λ i none. absurd none)
+    by (inr is) = subst (λ (s : State). AreInterleaves w s.domains) (sym is) (λ i none. absurd none)
 
 -- and no queue knows a name
 unknown : (w : Parts) (q : ℕ) (t : TaskId) → is_known (queue_at w [] q) t ≡ false

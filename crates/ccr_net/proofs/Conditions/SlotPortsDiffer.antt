@@ -8,9 +8,10 @@ use Rattle.ccr_base.specs.declared.patterns.Pattern.{Pattern}
 use Rattle.ccr_base.specs.declared.patterns.Pattern.TheVariants.{Slots, Gather}
 use Rattle.ccr_base.specs.declared.patterns.Slot.{Slot}
 use Rattle.ccr_wiring.specs.declared.parts.Parts.{Parts}
-use Rattle.ccr_wiring.specs.Valid.{HasPortsApart, has_port, are_apart, slot_ports, names_ports_once}
+use Rattle.ccr_wiring.specs.Valid.{HasPortsApart, slot_ports, names_ports_once}
 use Rattle.ccr_wiring.specs.Wirings.{Placement}
 use Rattle.ccr_base.proofs.Booleans.{same_number, eq-self, both, neither, not_true, no_both}
+use Rattle.ccr_base.specs.Lists.{has_number, are_apart}
 use Rattle.ccr_model.proofs.Members.{Among, Among-right}
 use Rattle.ccr_claim.specs.declared.plan.Had.{Had}
 use Rattle.ccr_claim.specs.Plans.{insert_slot, any_slot}
@@ -41,19 +42,19 @@ times-fold : (p : ℕ) (sorted slots : List Slot) → times p (fold (λ front s.
 times-fold p sorted [] = omega arith
 times-fold p sorted (x ∷ slots) = let rest = times-fold p (insert_slot x sorted) slots in let one = times-insert p x sorted in omega (arith, rest, one)
 
-times-none : (p : ℕ) (slots : List Slot) → has_port (slot_ports slots) p ≡ false → times p slots ≡ 0
+times-none : (p : ℕ) (slots : List Slot) → has_number (slot_ports slots) p ≡ false → times p slots ≡ 0
 times-none p [] none = refl
-times-none p (x ∷ slots) none = let parts = neither (x.port == p) (has_port (slot_ports slots) p) none in let here = ap bit parts.0 in let rest = times-none p slots parts.1 in omega (arith, here, rest)
+times-none p (x ∷ slots) none = let parts = neither (x.port == p) (has_number (slot_ports slots) p) none in let here = ap bit parts.0 in let rest = times-none p slots parts.1 in omega (arith, here, rest)
 
 times-apart : (p : ℕ) (slots : List Slot) → are_apart (slot_ports slots) ≡ true → times p slots ≤ 1
 times-apart p [] apart = omega arith
 times-apart p (x ∷ slots) apart = by (x.port == p) refl (times-apart p slots parts.1)
   where
-    parts : (not (has_port (slot_ports slots) x.port) ≡ true) × (are_apart (slot_ports slots) ≡ true)
-    parts = both (not (has_port (slot_ports slots) x.port)) (are_apart (slot_ports slots)) apart
+    parts : (not (has_number (slot_ports slots) x.port) ≡ true) × (are_apart (slot_ports slots) ≡ true)
+    parts = both (not (has_number (slot_ports slots) x.port)) (are_apart (slot_ports slots)) apart
 
     by : (b : Bool) → (x.port == p) ≡ b → times p slots ≤ 1 → bit (x.port == p) + times p slots ≤ 1
-    by true is rest = let one = ap bit is in let none : times p slots ≡ 0 = times-none p slots (ap (has_port (slot_ports slots)) (sym (same_number x.port p is)) ∙ not_true (has_port (slot_ports slots) x.port) parts.0) in omega (arith, one, none)
+    by true is rest = let one = ap bit is in let none : times p slots ≡ 0 = times-none p slots (ap (has_number (slot_ports slots)) (sym (same_number x.port p is)) ∙ not_true (has_number (slot_ports slots) x.port) parts.0) in omega (arith, one, none)
     by false is rest = let zero_here = ap bit is in omega (arith, zero_here, rest)
 
 times-had : (p : ℕ) (had : List Had) (d : Had) → Among d had → d.slot.port ≡ p → 1 ≤ times p (map slot_had had)

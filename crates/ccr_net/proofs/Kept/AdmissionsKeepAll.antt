@@ -20,7 +20,7 @@ use Rattle.ccr_base.proofs.Booleans.{refuted, no_both, or_right}
 use Rattle.ccr_model.proofs.Cutting.{CutFacts-legal, waits_unput}
 use Rattle.ccr_model.proofs.AllowedFirings.{waits_outside}
 use Rattle.ccr_model.proofs.LegalParts.{legal_push}
-use Rattle.ccr_model.proofs.Pushes.{posts-push, put-push, cut-push, ever_admitted-push}
+use Rattle.ccr_model.proofs.OneMoreEvent.{posts-push, put-push, cut-push, ever_admitted-push}
 use Rattle.ccr_model.proofs.SameNames.{same_task-self}
 use Rattle.ccr_model.proofs.Stable.{firing_named-append}
 use Rattle.ccr_model.proofs.TaskLists.{of_one, among_right}
@@ -40,7 +40,7 @@ use Rattle.ccr_runs.specs.EntryRuns.{Lacks, state_of, port_at, notes_at}
 use Rattle.ccr_runs.specs.Views.{view}
 use Rattle.ccr_runs.specs.Visible.{visible}
 use Rattle.ccr_net.proofs.Parts.OneMoreEntry.{visible-push, queue_at, Step}
-use Rattle.ccr_net.proofs.Parts.Invariant.{IsToPut, puts_in}
+use Rattle.ccr_net.proofs.Parts.PortsAndHandsMatch.{IsToPut, puts_in}
 use Rattle.ccr_net.proofs.Parts.StepsKeepPorts.{PortsMatch-event}
 use Rattle.ccr_net.proofs.Parts.StepsKeepActors.{ActorMatches-same, ActorMatches-history, ActorMatches-admit, puts_owed, stays_quiet}
 use Rattle.ccr_net.proofs.Parts.SitesMatch.{SitesMatch-other}
@@ -52,11 +52,11 @@ use Rattle.ccr_net.proofs.Parts.DomainsMatch.{Oldest, oldest, admit_allowed, dom
 use Rattle.ccr_net.proofs.Kept.WholeInvariant.{ActorHolds, Holds, Holds-kept, meter_at, works_of, same_under_way, same_ports, same_queues, same_meter}
 use Rattle.ccr_net.proofs.Kept.SilentStepsKeepAll.{silent_else, unmetered}
 use Rattle.ccr_net.proofs.Kept.ShownStepsKeepAll.{ActorHolds-event}
-use Rattle.ccr_net.proofs.Parts.NotesGiven.{Given, given_to}
+use Rattle.ccr_net.proofs.Parts.NotesAnswerAsks.{Given, given_to}
 
-hand_admits : (short : Bool) (hand : List Asked) (arbiters : List ℕ) (spots : List Spot) (i : ℕ) (more : List ℕ) → turn_of short hand arbiters spots ≡ admit i more → hand ≡ []
-hand_admits short (y ∷ hand) arbiters spots i more is = absurd (cc)
-hand_admits short [] arbiters spots i more is = refl
+hand_admits : (short : Bool) (hand : List Asked) (domains : List ℕ) (spots : List Spot) (i : ℕ) (more : List ℕ) → turn_of short hand domains spots ≡ admit i more → hand ≡ []
+hand_admits short (y ∷ hand) domains spots i more is = absurd (cc)
+hand_admits short [] domains spots i more is = refl
 
 module _ (w : Parts) (n : ℕ) (lacks : Lacks) (es : List Entry) (e : Entry) (low : e.actor < n) (holds : Holds w n lacks es) (step : Step w lacks es e) where
   abbrev before : State
@@ -89,7 +89,7 @@ module _ (w : Parts) (n : ℕ) (lacks : Lacks) (es : List Entry) (e : Entry) (lo
     queues = rw (same_queues w es e (places.Arbiter i) there refl) (QueuesHold-event w h event (queue_at w es) refl (λ q. queued-other w h q event refl refl refl refl) holds.queues);
     under_way = same_under_way w lacks es e (places.Arbiter i) next there refl (holds.under_way e.actor);
     own = rw same (record {
-      claims = ActorMatches-admit w (h ++ event ∷ []) (port_at es) e.actor before next task refl refl refl to_put refl (ActorMatches-history w h event (port_at es) e.actor (record before { hand = [] }) holds.legal (λ u is. ap (λ ts. has_task ts u) fired_so) (λ u is. absurd (cc)) (ActorMatches-same w h (port_at es) e.actor before (record before { hand = [] }) (sym (hand_admits before.is_short before.hand before.arbiters (spots_left before) i more turns)) refl refl own.claims));
+      claims = ActorMatches-admit w (h ++ event ∷ []) (port_at es) e.actor before next task refl refl refl to_put refl (ActorMatches-history w h event (port_at es) e.actor (record before { hand = [] }) holds.legal (λ u is. ap (λ ts. has_task ts u) fired_so) (λ u is. absurd (cc)) (ActorMatches-same w h (port_at es) e.actor before (record before { hand = [] }) (sym (hand_admits before.is_short before.hand before.domains (spots_left before) i more turns)) refl refl own.claims));
       work = WorkMatches-same w h event e.actor before.work (says e.actor) own.work;
       fits = record { spots_so = own.fits.spots_so; phase_so = own.fits.phase_so };
     });

@@ -48,7 +48,7 @@ use Rattle.ccr_places.specs.Arbiters.{ArbiterState}
 use Rattle.ccr_places.specs.Arbiters as arbiters
 use Rattle.ccr_places.specs.Sites.{SiteState}
 use Rattle.ccr_places.specs.Sites as sites
-use Rattle.ccr_places.specs.Ports.{PortState, is_claimed_by, first_fitting}
+use Rattle.ccr_places.specs.Ports.{is_claimed_by, first_fitting}
 use Rattle.ccr_places.specs.Ports as ports
 use Rattle.ccr_places.specs.Queues as queues
 use Rattle.ccr_claim.specs.declared.asks.Ask.{Ask}
@@ -66,7 +66,7 @@ use Rattle.ccr_runs.specs.EntryRuns.{Lacks, state_of, port_at, notes_at}
 use Rattle.ccr_runs.specs.Views.{queue_of}
 use Rattle.ccr_runs.specs.Visible.{visible}
 use Rattle.ccr_net.proofs.Parts.OneMoreEntry.{queue_at, Step}
-use Rattle.ccr_net.proofs.Parts.Invariant.{IsOwed, put_in}
+use Rattle.ccr_net.proofs.Parts.PortsAndHandsMatch.{IsOwed, put_in}
 use Rattle.ccr_net.proofs.Parts.StepsKeepActors.{unfired}
 use Rattle.ccr_net.proofs.Parts.SitesMatch.{site_at, SitesMatch-branch, SitesMatch-resume, someone_waits}
 use Rattle.ccr_net.proofs.Parts.ArbitersMatch.{FiresAlike-fire, FiresAlike-resume, KeepsShape, kept_shape, fired_there, is_of, none_fired, none_at_branch, none_at_first}
@@ -78,7 +78,7 @@ use Rattle.ccr_net.proofs.Kept.SilentStepsKeepAll.{step_consume, step_free, step
 use Rattle.ccr_net.proofs.Kept.WhatWiringsHave.{PlainFacts, Retires, IsEven}
 use Rattle.ccr_net.proofs.Kept.EventsAreAllowed.{fire_allowed, resume_allowed}
 use Rattle.ccr_net.proofs.Kept.FiringsKeepAll.{chosen_now, oldest_now, step_fire, step_put}
-use Rattle.ccr_net.proofs.Parts.NotesGiven.{given_some, none_at, over_note, Given, given_to}
+use Rattle.ccr_net.proofs.Parts.NotesAnswerAsks.{given_some, none_at, over_note, Given, given_to}
 
 module _ (w : Parts) (n : ℕ) (first : PlainFacts w) (few : n ≤ 33) (lacks : Lacks) (es : List Entry) (e : Entry) (low : e.actor < n) (holds : Holds w n lacks es) (step : Step w lacks es e) where
   abbrev before : State
@@ -145,7 +145,7 @@ module _ (w : Parts) (n : ℕ) (first : PlainFacts w) (few : n ≤ 33) (lacks : 
   pub settle_kept : (x : Asked) (more : List Asked) → turn before ≡ settle x more → Done
   settle_kept x more turns =
       let got = given_to w lacks es e step (settle x more) x turns refl in
-      let hand = hand_settles before.is_short before.hand before.arbiters (spots_left before) x more turns in
+      let hand = hand_settles before.is_short before.hand before.domains (spots_left before) x more turns in
       settle_by x more turns x.place x.ask got.there got.gives (own.claims.owed x (rw hand (inl refl))) refl
 
   -- ---- an attempt

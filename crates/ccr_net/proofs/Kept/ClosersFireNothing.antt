@@ -1,6 +1,6 @@
 -- No task of the actor behind posters and workers fires in a run.
-use Rattle.std.proofs.Common.{inl, inr, ◌≡◌, ◌≢◌, ◌≤◌, ◌<◌, ℕ, ◌+◌, Bool, true, false, List, [], ◌∷◌, ◌++◌, length, refl, sym, arith, ap, ◌∙◌, subst}
-use Rattle.std.specs.Prelude.{◌==◌, max, if◌then◌else◌}
+use Rattle.std.proofs.Common.{inl, inr, ◌≡◌, ◌≤◌, ◌<◌, ℕ, ◌+◌, Bool, true, false, List, [], ◌∷◌, ◌++◌, length, refl, sym, arith, ap, subst}
+use Rattle.std.specs.Prelude.{◌==◌}
 use Rattle.std.proofs.lemmas.Bool.Decides.{nat_tests}
 use Rattle.std.proofs.lemmas.Grind.{common_steps}
 use Rattle.ccr_base.specs.declared.names.TaskId.{TaskId}
@@ -12,10 +12,9 @@ use Rattle.ccr_model.specs.Firings.{fired}
 use Rattle.ccr_model.specs.Order.{next_attempt}
 use Rattle.ccr_base.proofs.Booleans.{same_number}
 use Rattle.ccr_model.proofs.SameNames.{same_task-self}
-use Rattle.ccr_claim.specs.declared.asks.Reply.{Reply}
-use Rattle.ccr_actor.specs.Actors.{State, state_after, start, shorten}
+use Rattle.ccr_actor.specs.Actors.{State, state_after}
 use Rattle.ccr_runs.specs.declared.entries.Entry.{Entry}
-use Rattle.ccr_runs.specs.EntryRuns.{Lacks, IsRun, IsRunAfter, replies_from, replies_of, state_of}
+use Rattle.ccr_runs.specs.EntryRuns.{Lacks, IsRun, IsRunAfter, replies_from, state_of}
 use Rattle.ccr_runs.specs.Visible.{visible}
 use Rattle.ccr_net.proofs.Kept.WholeInvariant.{Holds, IsBegun, begins}
 use Rattle.ccr_net.proofs.Kept.ValidWiringsArePlain.{plain_facts}

@@ -1,5 +1,5 @@
 -- Which events are allowed, from the facts of the invariant.
-use Rattle.std.proofs.Common.{◌≡◌, ◌≤◌, ◌<◌, ℕ, ◌+◌, ◌-◌, Bool, true, false, List, [], ◌∷◌, length, Option, Some, None, refl, sym, ap, ◌∙◌, subst, arith}
+use Rattle.std.proofs.Common.{◌≡◌, ◌≤◌, ◌<◌, ℕ, ◌+◌, ◌-◌, true, false, List, [], ◌∷◌, length, Option, Some, None, refl, sym, ap, ◌∙◌, subst, arith}
 use Rattle.std.specs.Prelude.{◌==◌, nat_le}
 use Rattle.std.specs.List.{slice_get}
 use Rattle.std.specs.Option.{option_map_or}
@@ -18,19 +18,18 @@ use Rattle.ccr_model.specs.declared.history.Event.{Event}
 use Rattle.ccr_model.specs.declared.history.Event.TheVariants as events
 use Rattle.ccr_model.specs.declared.history.EndHow.{EndHow}
 use Rattle.ccr_model.specs.declared.history.EndHow.TheVariants as ends
-use Rattle.ccr_model.specs.declared.rule.Rule.{Rule}
 use Rattle.ccr_model.specs.Choice.{is_choice, is_choice_of, are_oldest}
 use Rattle.ccr_model.specs.Firings.{fired}
 use Rattle.ccr_model.specs.Legal.{IsAllowed}
 use Rattle.ccr_model.specs.Live.{is_live, has_room, has_room_in}
 use Rattle.ccr_model.specs.Posts.{posts_of_poster, posts_of_task, posts_of_tasks, held}
-use Rattle.ccr_model.specs.Rules.{refused, is_new, cuts_at, is_script_line, is_play_post, is_post, has_budget, may_put, drop_at, is_oldest_queued, may_start, may_end, ends_so, is_shed}
+use Rattle.ccr_model.specs.Rules.{is_new, cuts_at, is_script_line, is_play_post, is_post, has_budget, may_put, drop_at, is_oldest_queued, may_start, may_end, ends_so, is_shed}
 use Rattle.ccr_model.specs.TaskData.{placement_of, play_of}
 use Rattle.ccr_model.specs.Tasks.{queued, running, running_by, has_post_left, count_unfinished}
 use Rattle.ccr_base.proofs.Booleans.{eq-self}
 use Rattle.ccr_model.proofs.SameNames.{same_task-self, same_value-self}
 use Rattle.ccr_model.proofs.Allowing.{same_option-self}
-use Rattle.ccr_net.proofs.Parts.Invariant.{IsToPut}
+use Rattle.ccr_net.proofs.Parts.PortsAndHandsMatch.{IsToPut}
 pub use Rattle.ccr_model.proofs.Allowing.{passed as refused_pass}
 
 same_all : (ts : List TaskId) → same_lists same_task ts ts ≡ true

@@ -34,10 +34,10 @@ use Rattle.ccr_model.specs.Tasks.{queued, is_for_queue, is_branch_where, running
 use Rattle.ccr_base.proofs.Booleans.{same_number, eq-self, refuted, no_both, or_left, or_right}
 use Rattle.ccr_model.proofs.FiredTasks.{IsFired, IsFired-append, fired_has}
 use Rattle.ccr_model.proofs.LegalParts.{legal_push}
-use Rattle.ccr_model.proofs.Members.{Among}
+use Rattle.ccr_model.proofs.Members.{Among, Among-kept}
 use Rattle.ccr_base.proofs.Options.{some_of}
 use Rattle.ccr_model.proofs.PostNames.{AreNamed}
-use Rattle.ccr_model.proofs.Pushes.{posts-push, put-push, cut-push}
+use Rattle.ccr_model.proofs.OneMoreEvent.{posts-push, put-push, cut-push}
 use Rattle.ccr_model.proofs.SameNames.{same_task-self}
 use Rattle.ccr_model.proofs.TaskSteps.{queued-fire}
 use Rattle.ccr_model.proofs.FiringPlacements.{firing_with_placement}
@@ -58,7 +58,7 @@ use Rattle.ccr_runs.specs.EntryRuns.{Lacks, state_of, port_at, notes_at, reply_o
 use Rattle.ccr_runs.specs.Views.{view, cut_view, queue_of}
 use Rattle.ccr_runs.specs.Visible.{visible, event_of, shown}
 use Rattle.ccr_net.proofs.Parts.OneMoreEntry.{visible-push, queue_at}
-use Rattle.ccr_net.proofs.Parts.Invariant.{ActorMatches, IsToPut, put_in, puts_in}
+use Rattle.ccr_net.proofs.Parts.PortsAndHandsMatch.{ActorMatches, IsToPut, put_in, puts_in}
 use Rattle.ccr_net.proofs.Parts.PostsKeepMarks.{has_name}
 use Rattle.ccr_net.proofs.Parts.StepsKeepPorts.{PortsMatch-fire, PortsMatch-event, IsTouched}
 use Rattle.ccr_net.proofs.Parts.StepsKeepActors.{ActorMatches-fire, ActorMatches-over, unfired, owed_later, stays_fire, puts_owed, puts_fired}
@@ -73,7 +73,6 @@ use Rattle.ccr_net.proofs.Parts.MeterMatches.{MeterMatches-quiet, is_posting, is
 use Rattle.ccr_net.proofs.Parts.PhasesFitPlans.{SpotFits, Fits, slot_had}
 use Rattle.ccr_net.proofs.Kept.WholeInvariant.{ActorHolds, Holds, Holds-kept, is_port_place, is_queue_place, is_meter_place, meter_at, works_of, queue_changes, same_under_way, same_stays, same_ports, same_queues, same_meter, hand_settles}
 use Rattle.ccr_net.proofs.Kept.SilentStepsKeepAll.{drives}
-use Rattle.ccr_net.proofs.Parts.NotesGiven.{filter_among}
 use Rattle.ccr_net.proofs.Kept.WhatWiringsHave.{PlainFacts, IsEven, no_posts}
 use Rattle.ccr_net.proofs.Kept.EventsAreAllowed.{put_allowed, start_allowed}
 use Rattle.ccr_net.proofs.Kept.ShownStepsKeepAll.{named_legal, ActorHolds-event, step_other}
@@ -322,7 +321,7 @@ module _ (w : Parts) (n : ℕ) (first : PlainFacts w) (few : n ≤ 33) (lacks : 
       same = same_ports es e (places.Queue q) place refl
 
       hand : before.hand ≡ x ∷ more
-      hand = hand_settles before.is_short before.hand before.arbiters (spots_left before) x more turns
+      hand = hand_settles before.is_short before.hand before.domains (spots_left before) x more turns
 
       mine : has_task (puts_in before.hand) t ≡ true
       mine = rw hand (among_left (put_in x.ask) (puts_in more) t (subst (λ ts. has_task ts t ≡ true) (sym is_put) (ap (λ b. b || false) (same_task-self t))))
@@ -415,7 +414,7 @@ module _ (w : Parts) (n : ℕ) (first : PlainFacts w) (few : n ≤ 33) (lacks : 
       throttled_fit : (p : Policy) (x : Spot) → Among x (throttled w q p) → SpotFits w x
       throttled_fit Unbounded x is = absurd is
       throttled_fit (Discard k) x is = absurd is
-      throttled_fit (Throttle k) x is = first.places_so x (filter_among (is_branch_for w q) (spots w) x is)
+      throttled_fit (Throttle k) x is = first.places_so x (Among-kept (is_branch_for w q) (spots w) x is)
 
       list : queued w h q ≡ t ∷ map task_queued found.others
       list = sym (holds.queues.listed.queued_so q) ∙ rw found.queued_so (ap (λ x. x ∷ map task_queued found.others) found.is_first)

@@ -14,7 +14,7 @@ use Rattle.ccr_model.specs.Legal.{IsLegal, has_shed, is_covered}
 use Rattle.ccr_model.specs.Posts.{posts_of_tasks}
 use Rattle.ccr_model.specs.Tasks.{count_unfinished}
 use Rattle.ccr_base.proofs.Options.{none-above}
-use Rattle.ccr_model.proofs.Covered.{IsCovered-legal}
+use Rattle.ccr_model.proofs.LegalIsCovered.{IsCovered-legal}
 use Rattle.ccr_actor.specs.Actors.{State, Work, lines, round, work_of, fresh_state}
 use Rattle.ccr_runs.specs.declared.entries.Entry.{Entry}
 use Rattle.ccr_runs.specs.EntryRuns.{Lacks, IsRun, port_at, state_of}
@@ -22,7 +22,7 @@ use Rattle.ccr_runs.specs.Visible.{visible}
 use Rattle.ccr_net.proofs.Parts.TasksAreBookedOnce.{QueueSound-start}
 use Rattle.ccr_net.proofs.Parts.OneMoreEntry.{queue_at, along_run, Step-made}
 use Rattle.ccr_net.proofs.Parts.DomainsMatch.{DomainMatches-begins}
-use Rattle.ccr_net.proofs.Parts.Invariant.{puts_in, ActorMatches}
+use Rattle.ccr_net.proofs.Parts.PortsAndHandsMatch.{puts_in, ActorMatches}
 use Rattle.ccr_net.proofs.Parts.WorkMatches.{WorkMatches}
 use Rattle.ccr_net.proofs.Parts.MeterMatches.{count, count-same, is_posting, is_shedding}
 use Rattle.ccr_net.proofs.Kept.WholeInvariant.{IsBegun, ActorHolds-begun, IsBooked-begun, begins, begun_work, Holds, works_of}

@@ -16,7 +16,7 @@ use Rattle.ccr_model.specs.Posts.{posts, taken}
 use Rattle.ccr_model.proofs.LegalParts.{legal_push}
 use Rattle.ccr_model.proofs.Members.{Among}
 use Rattle.ccr_model.proofs.PostNames.{AreNamed, named_kept, along, place_of, sent_by}
-use Rattle.ccr_model.proofs.Pushes.{put-push}
+use Rattle.ccr_model.proofs.OneMoreEvent.{put-push}
 use Rattle.ccr_model.proofs.Queued.{queued-other}
 use Rattle.ccr_places.specs.declared.claims.StandingClaim.{StandingClaim}
 use Rattle.ccr_places.specs.declared.notes.Note.TheVariants as notes
@@ -30,12 +30,12 @@ use Rattle.ccr_runs.specs.EntryRuns.{Lacks, state_of, port_at, reply_of}
 use Rattle.ccr_runs.specs.Visible.{visible, event_of}
 use Rattle.ccr_net.proofs.Parts.OneMoreEntry.{visible-push, queue_at}
 use Rattle.ccr_net.proofs.Parts.PostsKeepMarks.{first_fitting-post}
-use Rattle.ccr_net.proofs.Parts.Invariant.{ActorMatches, puts_in}
+use Rattle.ccr_net.proofs.Parts.PortsAndHandsMatch.{ActorMatches, puts_in}
 use Rattle.ccr_net.proofs.Parts.DomainsMatch.{DomainsMatch, DomainsMatch-event, DomainsMatch-elsewhere}
 use Rattle.ccr_net.proofs.Kept.SilentStepsKeepAll.{still_apart}
 use Rattle.ccr_net.proofs.Parts.StepsKeepPorts.{Changes, PortsMatch-post, PortsMatch-event, fired-post}
 use Rattle.ccr_net.proofs.Parts.StepsKeepActors.{ActorMatches-same, ActorMatches-ports, ActorMatches-history, StaysToPut, stays_quiet}
-use Rattle.ccr_net.proofs.Parts.HeldApart.{post_fresh}
+use Rattle.ccr_net.proofs.Parts.NamesStandAtOnePort.{post_fresh}
 use Rattle.ccr_net.proofs.Parts.SitesMatch.{SitesMatch, SitesMatch-other}
 use Rattle.ccr_net.proofs.Parts.ArbitersMatch.{ArbitersMatch-push, FiresAlike-other}
 use Rattle.ccr_net.proofs.Parts.BookedHasRoom.{QueuesHold, QueuesHold-event, IsBooked, Stays}
@@ -58,7 +58,7 @@ module _ (w : Parts) (n : ℕ) (lacks : Lacks) (es : List Entry) (e : Entry) (lo
   -- ---- going on with the work: no attempt is under way
 
   pub idle_phase : turn before ≡ go_on → before.phase ≡ booking
-  idle_phase turns = by before.phase before.spots refl refl (holds.actors e.actor).fits.phase_so (none_go_on before.is_short before.hand before.arbiters (spots_left before) turns).1
+  idle_phase turns = by before.phase before.spots refl refl (holds.actors e.actor).fits.phase_so (none_go_on before.is_short before.hand before.domains (spots_left before) turns).1
     where
       by : (ph : Phase) (ss : List Spot) → before.phase ≡ ph → before.spots ≡ ss → PhaseFits w before.attempt before.phase before.spots → spots_left before ≡ [] → before.phase ≡ booking
       by booking ss is so fits none = is

@@ -42,7 +42,7 @@ use Rattle.ccr_runs.specs.declared.entries.Entry.{Entry}
 use Rattle.ccr_runs.specs.EntryRuns.{Lacks, state_of, port_at, reply_of}
 use Rattle.ccr_runs.specs.Visible.{visible, event_of}
 use Rattle.ccr_net.proofs.Parts.OneMoreEntry.{visible-push, queue_at}
-use Rattle.ccr_net.proofs.Parts.Invariant.{PortsMatch, claim_for, put_in, puts_in}
+use Rattle.ccr_net.proofs.Parts.PortsAndHandsMatch.{PortsMatch, claim_for, put_in, puts_in}
 use Rattle.ccr_net.proofs.Parts.EventsChangeDomains.{cut_fired}
 use Rattle.ccr_net.proofs.Parts.DomainsMatch.{DomainsMatch, DomainsMatch-elsewhere, DomainsMatch-over, DomainsMatch-still}
 use Rattle.ccr_net.proofs.Parts.StepsKeepPorts.{Changes, PortsMatch-consume, PortsMatch-free, PortsMatch-got}
@@ -161,7 +161,7 @@ module _ (w : Parts) (n : ℕ) (lacks : Lacks) (es : List Entry) (e : Entry) (lo
   }
 
   settled_fewer : (x : Asked) (more : List Asked) → turn before ≡ settle x more → Fewer (record before { hand = more })
-  settled_fewer x more turns t is = rw (hand_settles before.is_short before.hand before.arbiters (spots_left before) x more turns) (among_right (put_in x.ask) (puts_in more) t is)
+  settled_fewer x more turns t is = rw (hand_settles before.is_short before.hand before.domains (spots_left before) x more turns) (among_right (put_in x.ask) (puts_in more) t is)
 
   -- the claim that stands at the port is the task's
   pub record Claims (port : PortState) (t : TaskId) : Type 0 where
@@ -206,7 +206,7 @@ module _ (w : Parts) (n : ℕ) (lacks : Lacks) (es : List Entry) (e : Entry) (lo
   step_consume p t x more place note turns owed found =
       silent_port p (record before { hand = more }) (settled_fewer x more turns) place (rw note refl) (rw (turns, note) refl)
       (PortsMatch-consume h (port_at es) (port_at (es ++ e ∷ [])) p found.claim t found.stands (subst (λ u. has_task (fired h) u ≡ true) found.own owed.1) (subst (Changes (port_at es) (port_at (es ++ e ∷ [])) p) note (port_changes es e p place)) holds.ports)
-      (ActorHolds-settled (port_at (es ++ e ∷ [])) e.actor before x more (hand_settles before.is_short before.hand before.arbiters (spots_left before) x more turns) (all e.actor))
+      (ActorHolds-settled (port_at (es ++ e ∷ [])) e.actor before x more (hand_settles before.is_short before.hand before.domains (spots_left before) x more turns) (all e.actor))
       (λ a other. all a) (holds.under_way e.actor) refl (λ is. is)
     where
       all : (a : ℕ) → ActorHolds w h (port_at (es ++ e ∷ [])) a (state_of w lacks es a)
@@ -219,7 +219,7 @@ module _ (w : Parts) (n : ℕ) (lacks : Lacks) (es : List Entry) (e : Entry) (lo
   step_free p t x more place note turns owed found =
       silent_port p (record before { hand = more }) (settled_fewer x more turns) place (rw note refl) (rw (turns, note) refl)
       (PortsMatch-free h (port_at es) (port_at (es ++ e ∷ [])) p found.claim t found.stands (subst (λ u. has_task (fired h) u ≡ false) found.own owed.2) (subst (Changes (port_at es) (port_at (es ++ e ∷ [])) p) note (port_changes es e p place)) holds.ports)
-      (ActorHolds-settled (port_at (es ++ e ∷ [])) e.actor before x more (hand_settles before.is_short before.hand before.arbiters (spots_left before) x more turns) (all e.actor))
+      (ActorHolds-settled (port_at (es ++ e ∷ [])) e.actor before x more (hand_settles before.is_short before.hand before.domains (spots_left before) x more turns) (all e.actor))
       (λ a other. all a) (holds.under_way e.actor) refl (λ is. is)
     where
       old : (a : ℕ) → t.actor ≡ a → t.attempt ≡ (state_of w lacks es a).attempt → ⊥
@@ -236,7 +236,7 @@ module _ (w : Parts) (n : ℕ) (lacks : Lacks) (es : List Entry) (e : Entry) (lo
   step_unbook q t x more place note turns owed =
       silent_queue q (record before { hand = more }) (settled_fewer x more turns) place (rw note refl) (rw (turns, note) refl) (λ k. rw note refl) (λ k. rw note refl)
       (BookingsMatch-unbook w h (queue_at w es) (queue_at w (es ++ e ∷ [])) q t (gone owed) changes holds.queues.booked)
-      (ActorHolds-settled (port_at es) e.actor before x more (hand_settles before.is_short before.hand before.arbiters (spots_left before) x more turns) (holds.actors e.actor))
+      (ActorHolds-settled (port_at es) e.actor before x more (hand_settles before.is_short before.hand before.domains (spots_left before) x more turns) (holds.actors e.actor))
       (record {
         own = IsBookedAt-stays w (queue_at w es) (queue_at w (es ++ e ∷ [])) (name_at e.actor before) before.phase before.spots (Stays-unbook (queue_at w es) (queue_at w (es ++ e ∷ [])) q t (name_at e.actor before) changes (old owed)) (holds.under_way e.actor);
         others = λ a other. Stays-unbook (queue_at w es) (queue_at w (es ++ e ∷ [])) q t (name_at a (state_of w lacks es a)) changes (of_other a other owed);
@@ -264,7 +264,7 @@ module _ (w : Parts) (n : ℕ) (lacks : Lacks) (es : List Entry) (e : Entry) (lo
   pub step_over : (i : ℕ) (t r : TaskId) (x : Asked) (more : List Asked) → e.place ≡ places.Arbiter i → e.note ≡ notes.Over t r hows.Dropped → turn before ≡ settle x more → is_over h r ≡ true → Holds w n lacks (es ++ e ∷ [])
   step_over i t r x more place note turns over =
       silent_else (places.Arbiter i) (record before { hand = more }) (settled_fewer x more turns) (DomainsMatch-over w h es e i t r hows.Dropped place note over holds.domains) place refl (rw note refl) (rw (turns, note) refl) (rw (same_queues w es e (places.Arbiter i) place refl) holds.queues)
-      (ActorHolds-settled (port_at es) e.actor before x more (hand_settles before.is_short before.hand before.arbiters (spots_left before) x more turns) (holds.actors e.actor)) (same_under_way w lacks es e (places.Arbiter i) (record before { hand = more }) place refl (holds.under_way e.actor)) (unmetered (places.Arbiter i) place refl) refl (λ is. is)
+      (ActorHolds-settled (port_at es) e.actor before x more (hand_settles before.is_short before.hand before.domains (spots_left before) x more turns) (holds.actors e.actor)) (same_under_way w lacks es e (places.Arbiter i) (record before { hand = more }) place refl (holds.under_way e.actor)) (unmetered (places.Arbiter i) place refl) refl (λ is. is)
 
   -- ---- the attempt
 
@@ -273,7 +273,7 @@ module _ (w : Parts) (n : ℕ) (lacks : Lacks) (es : List Entry) (e : Entry) (lo
     pub numbered : nat_lt before.attempt (2 ^ 32) ≡ true
 
   pub drives : (spot : Spot) (more : List Spot) → turn before ≡ drive spot more → Drives spot more
-  drives spot more turns = of_test (nat_lt before.attempt (2 ^ 32)) refl (spots_drive before.is_short before.hand before.arbiters (spots_left before) spot more turns).1
+  drives spot more turns = of_test (nat_lt before.attempt (2 ^ 32)) refl (spots_drive before.is_short before.hand before.domains (spots_left before) spot more turns).1
     where
       of_test : (b : Bool) → nat_lt before.attempt (2 ^ 32) ≡ b → (if b then before.spots else []) ≡ spot ∷ more → Drives spot more
       of_test true numbered is = record { spots_so = is; numbered = numbered }

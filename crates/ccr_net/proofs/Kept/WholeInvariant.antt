@@ -24,7 +24,7 @@ use Rattle.ccr_runs.specs.Places.{meter_after}
 use Rattle.ccr_runs.specs.EntryRuns.{Lacks, state_of, port_at, notes_at, reply_of, same_place}
 use Rattle.ccr_runs.specs.Visible.{visible}
 use Rattle.ccr_net.proofs.Parts.OneMoreEntry.{port_at-push, queue_at, queue_at-push, IsNextState, state_of-own, state_of-other}
-use Rattle.ccr_net.proofs.Parts.Invariant.{PortsMatch, ActorMatches, puts_in}
+use Rattle.ccr_net.proofs.Parts.PortsAndHandsMatch.{PortsMatch, ActorMatches, puts_in}
 use Rattle.ccr_net.proofs.Parts.StepsKeepPorts.{Changes}
 use Rattle.ccr_net.proofs.Parts.StepsKeepActors.{ActorMatches-same, ActorMatches-short, puts-short}
 use Rattle.ccr_net.proofs.Parts.DomainsMatch.{DomainsMatch}
@@ -264,30 +264,30 @@ same_under_way w lacks es e place next there other booked = record {
 
 -- ---- what a turn says of the state
 
-pub hand_settles : (short : Bool) (hand : List Asked) (arbiters : List ℕ) (spots : List Spot) (x : Asked) (more : List Asked) → turn_of short hand arbiters spots ≡ settle x more → hand ≡ x ∷ more
-hand_settles short (y ∷ hand) arbiters spots x more is = cc
-hand_settles true [] arbiters spots x more is = absurd (cc)
-hand_settles false [] (i ∷ arbiters) spots x more is = absurd (cc)
+pub hand_settles : (short : Bool) (hand : List Asked) (domains : List ℕ) (spots : List Spot) (x : Asked) (more : List Asked) → turn_of short hand domains spots ≡ settle x more → hand ≡ x ∷ more
+hand_settles short (y ∷ hand) domains spots x more is = cc
+hand_settles true [] domains spots x more is = absurd (cc)
+hand_settles false [] (i ∷ domains) spots x more is = absurd (cc)
 hand_settles false [] [] (s ∷ spots) x more is = absurd (cc)
 hand_settles false [] [] [] x more is = absurd (cc)
 
-pub arbiters_admit : (short : Bool) (hand : List Asked) (arbiters : List ℕ) (spots : List Spot) (i : ℕ) (more : List ℕ) → turn_of short hand arbiters spots ≡ admit i more → arbiters ≡ i ∷ more
-arbiters_admit short (y ∷ hand) arbiters spots i more is = absurd (cc)
-arbiters_admit true [] arbiters spots i more is = absurd (cc)
-arbiters_admit false [] (j ∷ arbiters) spots i more is = cc
-arbiters_admit false [] [] (s ∷ spots) i more is = absurd (cc)
-arbiters_admit false [] [] [] i more is = absurd (cc)
+pub domains_admit : (short : Bool) (hand : List Asked) (domains : List ℕ) (spots : List Spot) (i : ℕ) (more : List ℕ) → turn_of short hand domains spots ≡ admit i more → domains ≡ i ∷ more
+domains_admit short (y ∷ hand) domains spots i more is = absurd (cc)
+domains_admit true [] domains spots i more is = absurd (cc)
+domains_admit false [] (j ∷ domains) spots i more is = cc
+domains_admit false [] [] (s ∷ spots) i more is = absurd (cc)
+domains_admit false [] [] [] i more is = absurd (cc)
 
-pub spots_drive : (short : Bool) (hand : List Asked) (arbiters : List ℕ) (spots : List Spot) (s : Spot) (more : List Spot) → turn_of short hand arbiters spots ≡ drive s more → (hand ≡ []) × (spots ≡ s ∷ more)
-spots_drive short (y ∷ hand) arbiters spots s more is = absurd (cc)
-spots_drive true [] arbiters spots s more is = absurd (cc)
-spots_drive false [] (j ∷ arbiters) spots s more is = absurd (cc)
+pub spots_drive : (short : Bool) (hand : List Asked) (domains : List ℕ) (spots : List Spot) (s : Spot) (more : List Spot) → turn_of short hand domains spots ≡ drive s more → (hand ≡ []) × (spots ≡ s ∷ more)
+spots_drive short (y ∷ hand) domains spots s more is = absurd (cc)
+spots_drive true [] domains spots s more is = absurd (cc)
+spots_drive false [] (j ∷ domains) spots s more is = absurd (cc)
 spots_drive false [] [] (x ∷ spots) s more is = (refl, cc)
 spots_drive false [] [] [] s more is = absurd (cc)
 
-pub none_go_on : (short : Bool) (hand : List Asked) (arbiters : List ℕ) (spots : List Spot) → turn_of short hand arbiters spots ≡ go_on → (hand ≡ []) × (spots ≡ [])
-none_go_on short (y ∷ hand) arbiters spots is = absurd (cc)
-none_go_on true [] arbiters spots is = absurd (cc)
-none_go_on false [] (j ∷ arbiters) spots is = absurd (cc)
+pub none_go_on : (short : Bool) (hand : List Asked) (domains : List ℕ) (spots : List Spot) → turn_of short hand domains spots ≡ go_on → (hand ≡ []) × (spots ≡ [])
+none_go_on short (y ∷ hand) domains spots is = absurd (cc)
+none_go_on true [] domains spots is = absurd (cc)
+none_go_on false [] (j ∷ domains) spots is = absurd (cc)
 none_go_on false [] [] (x ∷ spots) is = absurd (cc)
 none_go_on false [] [] [] is = (refl, refl)

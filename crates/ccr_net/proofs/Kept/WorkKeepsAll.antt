@@ -29,9 +29,10 @@ use Rattle.ccr_model.proofs.FiredTasks.{IsFired, IsFired-append}
 use Rattle.ccr_model.specs.Tasks.{running, running_by, has_post_left, unfinished, count_unfinished}
 use Rattle.ccr_base.proofs.Booleans.{same_number, eq-self, or_right}
 use Rattle.ccr_base.proofs.Options.{no_some}
-use Rattle.ccr_model.proofs.Pushes.{posts-push}
+use Rattle.ccr_model.proofs.OneMoreEvent.{posts-push}
 use Rattle.ccr_model.proofs.SameNames.{same_value-self}
 use Rattle.ccr_model.proofs.TaskLists.{to_filter}
+use Rattle.ccr_model.proofs.Members.{Among-kept}
 use Rattle.ccr_places.specs.declared.notes.Note.{Note}
 use Rattle.ccr_places.specs.declared.notes.Note.TheVariants as notes
 use Rattle.ccr_places.specs.Queues as queues
@@ -52,14 +53,14 @@ use Rattle.ccr_net.proofs.Parts.TasksStartOnce.{AreStarted-legal, run_apart, run
 use Rattle.ccr_net.proofs.Parts.WorkMatches.{WorkMatches, RunsTask, Scripted, Idle, script_says, task_says, script_own, task_own, drop-next, drop-end, play-view, view-stays}
 use Rattle.ccr_net.proofs.Parts.MeterMatches.{MeterMatches, MeterMatches-quiet, MeterMatches-drawn, MeterMatches-spent, MeterMatches-post, is_posting, is_shedding, count, bit, count-one, count-some, count-within}
 use Rattle.ccr_net.proofs.Kept.WholeInvariant.{ActorHolds, Holds, meter_at, meter_at-push, works_of, queue_changes, same_ports, same_queues}
-use Rattle.ccr_net.proofs.Parts.Invariant.{puts_in}
+use Rattle.ccr_net.proofs.Parts.PortsAndHandsMatch.{puts_in}
 use Rattle.ccr_net.proofs.Parts.DomainsMatch.{DomainsMatch-elsewhere}
 use Rattle.ccr_net.proofs.Kept.SilentStepsKeepAll.{silent_metered, silent_else, unmetered}
 use Rattle.ccr_net.proofs.Kept.WhatWiringsHave.{PlainFacts}
 use Rattle.ccr_net.proofs.Kept.EventsAreAllowed.{script_allowed, play_allowed, end_allowed, shed_allowed}
 use Rattle.ccr_net.proofs.Kept.ShownStepsKeepAll.{GoesOn, goes_fits, goes_booked, goes_under_way, step_post}
 use Rattle.ccr_net.proofs.Kept.FiringsKeepAll.{step_start, step_end, step_suspend}
-use Rattle.ccr_net.proofs.Parts.NotesGiven.{given_some, over_note, filter_among, posts_script, posts_task, Given, given_to}
+use Rattle.ccr_net.proofs.Parts.NotesAnswerAsks.{given_some, over_note, posts_script, posts_task, Given, given_to}
 
 module _ (w : Parts) (n : ℕ) (first : PlainFacts w) (few : n ≤ 33) (lacks : Lacks) (es : List Entry) (e : Entry) (low : e.actor < n) (holds : Holds w n lacks es) (step : Step w lacks es e) where
   abbrev before : State
@@ -139,7 +140,7 @@ module _ (w : Parts) (n : ℕ) (first : PlainFacts w) (few : n ≤ 33) (lacks : 
       post got =
           let note = (given_some _ (notes.Post m) e.note got.gives).1 in
           step_post w n lacks es e low holds m next got.there note turns (rw (turns, work) refl)
-          (record { hand = refl; phase = refl; attempt = refl; spots_so = λ s among. first.places_so s (filter_among (takes_from w sent.port) (spots w) s among) })
+          (record { hand = refl; phase = refl; attempt = refl; spots_so = λ s among. first.places_so s (Among-kept (takes_from w sent.port) (spots w) s among) })
           (script_allowed w h e.actor place is.poster sent is.is_poster rest.0 is.place_so) is.place_so
           (record { poster = is.poster; is_poster = is.is_poster; place_so = ap (λ k. k + 1) is.place_so ∙ sym (script_own h m e.actor place refl); left_so = rest.1 ∙ ap (λ k. drop k is.poster.posts) (suc-one place) })
           (λ a other. script_says h m a e.actor place refl other)
@@ -328,7 +329,7 @@ module _ (w : Parts) (n : ℕ) (first : PlainFacts w) (few : n ≤ 33) (lacks : 
       post got =
           let note = (given_some _ (notes.Post m) e.note got.gives).1 in
           step_post w n lacks es e low holds m next got.there note turns (rw (turns, work) refl)
-          (record { hand = refl; phase = refl; attempt = refl; spots_so = λ s among. first.places_so s (filter_among (takes_from w sent.port) (spots w) s among) })
+          (record { hand = refl; phase = refl; attempt = refl; spots_so = λ s among. first.places_so s (Among-kept (takes_from w sent.port) (spots w) s among) })
           (play_allowed w h task.id place sent (runs h e.actor task.id run.alone) line run.place_so room) run.place_so (
             record {
               worker = run.worker;

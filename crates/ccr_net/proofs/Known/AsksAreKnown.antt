@@ -49,15 +49,15 @@ use Rattle.ccr_runs.specs.EntryRuns.{Lacks, notes_at, port_at, same_place, state
 use Rattle.ccr_runs.specs.Visible.{visible}
 use Rattle.ccr_net.proofs.Parts.ArbitersMatch.{none_at_first}
 use Rattle.ccr_net.proofs.Parts.StepsKeepActors.{unfired}
-use Rattle.ccr_net.proofs.Kept.WholeInvariant.{Holds, arbiters_admit, hand_settles, spots_drive}
+use Rattle.ccr_net.proofs.Kept.WholeInvariant.{Holds, domains_admit, hand_settles, spots_drive}
 use Rattle.ccr_net.proofs.Played.BuiltTasksAreTold.{got_posted}
 use Rattle.ccr_net.proofs.Played.HandedTasksAreTold.{CausesTell, Handed, PutSeen}
-use Rattle.ccr_net.proofs.Parts.Invariant.{IsOwed}
+use Rattle.ccr_net.proofs.Parts.PortsAndHandsMatch.{IsOwed}
 use Rattle.ccr_net.proofs.Known.CausesAreKnown.{IsSentFine, fine_causes, play_of-fine, posted_fine, script_fine}
 use Rattle.ccr_net.proofs.Known.PlacesAreKnown.{IsPlaceOf}
 use Rattle.ccr_net.proofs.Known.StatesAreKnown.{Reaches, WorkReaches}
 use Rattle.ccr_net.proofs.Known.TasksAreKnown.{IsDomain, built_known, domain_low, domain_own, spot_domain, spot_queue, suspended_known, view_domain, view_known, view_queue}
-use Rattle.ccr_net.proofs.Parts.NotesGiven.{none_at}
+use Rattle.ccr_net.proofs.Parts.NotesAnswerAsks.{none_at}
 use Rattle.ccr_net.proofs.Parts.GotNamesStandAlone.{sorted_among}
 use Rattle.ccr_net.proofs.Parts.PhasesFitPlans.{Fits, PhaseFits, SpotFits}
 use Rattle.ccr_net.proofs.Kept.WhatWiringsHave.{PlainFacts}
@@ -382,13 +382,13 @@ module _ (w : Parts) (valid : IsValid w) (plain : PlainFacts w) (n : ℕ) (lacks
 
       by : (tu : Turn) → turn st ≡ tu → ask_in w a st tu ≡ Some x → IsNamed w x
       by (settle y more) turns same =
-          let among : Among y st.hand = subst (Among y) (sym (hand_settles st.is_short st.hand st.arbiters (spots_left st) y more turns)) (inl refl) in
+          let among : Among y st.hand = subst (Among y) (sym (hand_settles st.is_short st.hand st.domains (spots_left st) y more turns)) (inl refl) in
           let e : y ≡ x = inside same in
           let both = owed_named y.place y.ask note ((holds.actors a).claims.owed y among) ((handed a).hands y among) (subst (λ (z : Asked). note_of w z.place (notes_at es z.place) z.ask ≡ Some note) (sym e) gives) in
           subst (IsNamed w) e (record { place = both.0; ask = both.1 })
-      by (admit i more) turns same = one _ (record { place = domain_place w valid i (reach.arbs i (subst (Among i) (sym (arbiters_admit st.is_short st.hand st.arbiters (spots_left st) i more turns)) (inl refl))); ask = tt }) same
+      by (admit i more) turns same = one _ (record { place = domain_place w valid i (reach.arbs i (subst (Among i) (sym (domains_admit st.is_short st.hand st.domains (spots_left st) i more turns)) (inl refl))); ask = tt }) same
       by (drive spot more) turns same =
-          let found = attempts spot more (spots_drive st.is_short st.hand st.arbiters (spots_left st) spot more turns).1 in
+          let found = attempts spot more (spots_drive st.is_short st.hand st.domains (spots_left st) spot more turns).1 in
           one _ (drive_named spot found.0 st.phase refl found.1) same
       by go_on turns same = work_named st.work (holds.actors a).work reach.works (handed a).plays x same
       by stop turns same = absurd (cc)

@@ -16,13 +16,12 @@ use Rattle.ccr_base.specs.declared.names.Spot.TheVariants.{Site}
 use Rattle.ccr_base.specs.declared.names.TaskId.{TaskId}
 use Rattle.ccr_base.specs.Names.{has_task, same_lists, same_message}
 use Rattle.ccr_base.specs.Values.{same_value}
-use Rattle.ccr_cause.specs.Causes.{has_cause, union, with_cause, without_cause}
+use Rattle.ccr_cause.specs.Causes.{union, with_cause, without_cause}
 use Rattle.ccr_handler.specs.declared.segments.Play.{Play}
 use Rattle.ccr_handler.specs.Evaluating.{value_of}
 use Rattle.ccr_handler.specs.Playing.{actions_from, after_await, exceptions, is_await, play}
 use Rattle.ccr_wiring.specs.declared.parts.Parts.{Parts}
 use Rattle.ccr_wiring.specs.declared.parts.PosterPart.{PosterPart}
-use Rattle.ccr_wiring.specs.Repeats.{are_apart, has_port}
 use Rattle.ccr_wiring.specs.Valid.{IsActionNamed, IsSound}
 use Rattle.ccr_wiring.specs.Wirings.{Placement, actions_of, branch_of, exception_port, placement, segment_of, actions_at}
 use Rattle.ccr_wiring.proofs.Apart.{apart_snoc}
@@ -36,12 +35,12 @@ use Rattle.ccr_model.specs.Sites.{before, is_firing_of, resumed}
 use Rattle.ccr_model.specs.TaskData.{Load, load_after, load_at, load_of, messages_of, no_load, no_play, play_at, play_of, with_messages}
 use Rattle.ccr_model.specs.Tasks.{running}
 use Rattle.ccr_base.proofs.Booleans.{both, same_number, not_true}
-use Rattle.ccr_model.proofs.Members.{Among, Among-either, Among-at, Among-left, Among-right}
+use Rattle.ccr_model.proofs.Members.{Among, Among-either, Among-at, Among-left, Among-right, Among-kept}
 use Rattle.ccr_base.proofs.Options.{some_of, some_then}
+use Rattle.ccr_base.specs.Lists.{has_number, are_apart}
 use Rattle.ccr_model.proofs.PostNames.{along, refused_not}
-use Rattle.ccr_model.proofs.Pushes.{posts-push}
+use Rattle.ccr_model.proofs.OneMoreEvent.{posts-push}
 use Rattle.ccr_claim.specs.Wired.{AreCausesOf}
-use Rattle.ccr_net.proofs.Parts.NotesGiven.{filter_among}
 
 -- ---- lists of causes
 
@@ -61,36 +60,36 @@ none_fine : (n : ℕ) → AreFine n []
 none_fine n = record { below = λ c is. absurd is; apart = refl }
 
 with_fine : (n : ℕ) (causes : List ℕ) (c : ℕ) → AreFine n causes → c < n → AreFine n (with_cause causes c)
-with_fine n causes c fine low = by (has_cause causes c) refl
+with_fine n causes c fine low = by (has_number causes c) refl
   where
     below_too : (d : ℕ) → Among d causes ⊎ Among d (c ∷ []) → d < n
     below_too d (inl is) = fine.below d is
     below_too d (inr (inl e)) = subst (λ k. k < n) (sym e) low
     below_too d (inr (inr none)) = absurd none
 
-    by : (b : Bool) → has_cause causes c ≡ b → AreFine n (if b then causes else causes ++ c ∷ [])
+    by : (b : Bool) → has_number causes c ≡ b → AreFine n (if b then causes else causes ++ c ∷ [])
     by true is = fine
     by false is = record { below = λ d among. below_too d (Among-either d causes (c ∷ []) among); apart = apart_snoc causes c fine.apart is }
 
-filter_out : (p : ℕ → Bool) (xs : List ℕ) (x : ℕ) → has_port xs x ≡ false → has_port (filter p xs) x ≡ false
+filter_out : (p : ℕ → Bool) (xs : List ℕ) (x : ℕ) → has_number xs x ≡ false → has_number (filter p xs) x ≡ false
 filter_out p [] x out = refl
 filter_out p (y ∷ xs) x out = by (p y) (y == x) refl out (filter_out p xs x)
   where
-    by : (b c : Bool) → (y == x) ≡ c → c || has_port xs x ≡ false → (has_port xs x ≡ false → has_port (filter p xs) x ≡ false) → has_port (if b then y ∷ filter p xs else filter p xs) x ≡ false
-    by true false is rest more = ap (λ t. t || has_port (filter p xs) x) is ∙ more rest
+    by : (b c : Bool) → (y == x) ≡ c → c || has_number xs x ≡ false → (has_number xs x ≡ false → has_number (filter p xs) x ≡ false) → has_number (if b then y ∷ filter p xs else filter p xs) x ≡ false
+    by true false is rest more = ap (λ t. t || has_number (filter p xs) x) is ∙ more rest
     by false false is rest more = more rest
     by b true is rest more = absurd (cc)
 
 filter_apart : (p : ℕ → Bool) (xs : List ℕ) → are_apart xs ≡ true → are_apart (filter p xs) ≡ true
 filter_apart p [] apart = refl
-filter_apart p (x ∷ xs) apart = by (p x) (both (not (has_port xs x)) (are_apart xs) apart).0 (filter_apart p xs (both (not (has_port xs x)) (are_apart xs) apart).1)
+filter_apart p (x ∷ xs) apart = by (p x) (both (not (has_number xs x)) (are_apart xs) apart).0 (filter_apart p xs (both (not (has_number xs x)) (are_apart xs) apart).1)
   where
-    by : (b : Bool) → not (has_port xs x) ≡ true → are_apart (filter p xs) ≡ true → are_apart (if b then x ∷ filter p xs else filter p xs) ≡ true
-    by true here rest = rw (filter_out p xs x (not_true (has_port xs x) here)) rest
+    by : (b : Bool) → not (has_number xs x) ≡ true → are_apart (filter p xs) ≡ true → are_apart (if b then x ∷ filter p xs else filter p xs) ≡ true
+    by true here rest = rw (filter_out p xs x (not_true (has_number xs x) here)) rest
     by false here rest = rest
 
 without_fine : (n : ℕ) (causes : List ℕ) (c : ℕ) → AreFine n causes → AreFine n (without_cause causes c)
-without_fine n causes c fine = record { below = λ d is. fine.below d (filter_among (λ other. not (other == c)) causes d is); apart = filter_apart (λ other. not (other == c)) causes fine.apart }
+without_fine n causes c fine = record { below = λ d is. fine.below d (Among-kept (λ other. not (other == c)) causes d is); apart = filter_apart (λ other. not (other == c)) causes fine.apart }
 
 pub union_fine : (n : ℕ) (causes more : List ℕ) → AreFine n causes → ((c : ℕ) → Among c more → c < n) → AreFine n (union causes more)
 union_fine n causes [] fine low = fine

@@ -20,7 +20,7 @@ use Rattle.ccr_model.specs.declared.history.Event.TheVariants as events
 use Rattle.ccr_model.specs.Firings.{dropped}
 use Rattle.ccr_model.specs.Legal.{IsLegal}
 use Rattle.ccr_model.proofs.Members.{Among, Among-either}
-use Rattle.ccr_model.proofs.Pushes.{dropped-push}
+use Rattle.ccr_model.proofs.OneMoreEvent.{dropped-push}
 use Rattle.ccr_model.proofs.SameNames.{same_task-self}
 use Rattle.ccr_model.proofs.TaskLists.{among_right}
 use Rattle.ccr_model.proofs.TaskPlaces.{ArePlaced-legal}
@@ -33,7 +33,7 @@ use Rattle.ccr_actor.specs.Plans.{is_interleave_number}
 use Rattle.ccr_actor.specs.Actors.{State, Work, lines, round, taking, playing, posting, shedding, resting, Turn, settle, admit, drive, go_on, stop, turn, spots_left, start, settled, add_arbiter, admissions_after, after_admit, after_attempt, after_over, give_up, after_work, after_in, take_from, after_end, after_play, next_round, shorten}
 use Rattle.ccr_runs.specs.EntryRuns.{reply_to}
 use Rattle.ccr_runs.specs.Views.{view}
-use Rattle.ccr_net.proofs.Kept.WholeInvariant.{arbiters_admit, spots_drive}
+use Rattle.ccr_net.proofs.Kept.WholeInvariant.{domains_admit, spots_drive}
 use Rattle.ccr_net.proofs.Known.TasksAreKnown.{IsDomain, spot_domain, view_domain}
 use Rattle.ccr_net.proofs.Parts.PhasesFitPlans.{SpotFits}
 use Rattle.ccr_net.proofs.Parts.WorkMatches.{RunsTask, WorkMatches}
@@ -44,7 +44,7 @@ WorkReaches w (taking left q more) = q + length more < length w.queues
 WorkReaches w _ = Unit {0}
 
 pub record Reaches (w : Parts) (st : State) : Type 0 where
-  pub arbs : (i : ℕ) → Among i st.arbiters → IsDomain w i
+  pub arbs : (i : ℕ) → Among i st.domains → IsDomain w i
   pub works : WorkReaches w st.work
 
 -- ---- what a put drops
@@ -109,8 +109,8 @@ module _ (w : Parts) (all : IsSound w) (h : List Event) (legal : IsLegal w h) (a
       rest : Reaches w (record st { hand = more })
       rest = record { arbs = reach.arbs; works = reach.works }
 
-      too : (t : Task) → IsDomain w t.arbiter → (b : Bool) → (i : ℕ) → Among i (if b then add_arbiter w t.arbiter st.arbiters else st.arbiters) → IsDomain w i
-      too t one true i there = add_reaches w t.arbiter st.arbiters one reach.arbs i there
+      too : (t : Task) → IsDomain w t.arbiter → (b : Bool) → (i : ℕ) → Among i (if b then add_arbiter w t.arbiter st.domains else st.domains) → IsDomain w i
+      too t one true i there = add_reaches w t.arbiter st.domains one reach.arbs i there
       too t one false i there = reach.arbs i there
 
       by : (reply : Reply) → DropReaches w reply → Reaches w (settled w st more reply)
@@ -130,13 +130,13 @@ module _ (w : Parts) (all : IsSound w) (h : List Event) (legal : IsLegal w h) (a
       by replies.Spent drops = rest
       by (replies.Left k) drops = rest
 
-  admit_reaches : (i : ℕ) (more : List ℕ) → st.arbiters ≡ i ∷ more → (reply : Reply) → Reaches w (after_admit st more reply)
+  admit_reaches : (i : ℕ) (more : List ℕ) → st.domains ≡ i ∷ more → (reply : Reply) → Reaches w (after_admit st more reply)
   admit_reaches i more list reply = by reply
     where
-      struck : Reaches w (record st { arbiters = more })
+      struck : Reaches w (record st { domains = more })
       struck = record { arbs = λ j there. reach.arbs j (subst (Among j) (sym list) (inr there)); works = reach.works }
 
-      on : (b : Bool) (j : ℕ) → Among j (if b then st.arbiters else []) → IsDomain w j
+      on : (b : Bool) (j : ℕ) → Among j (if b then st.domains else []) → IsDomain w j
       on true j there = reach.arbs j there
       on false j none = absurd none
 
@@ -203,7 +203,7 @@ module _ (w : Parts) (all : IsSound w) (h : List Event) (legal : IsLegal w h) (a
   task_domain task place left run = subst (λ (t : Task). IsDomain w t.arbiter) (sym run.as_seen) (view_domain w all h legal task.id run.fires)
 
   over_reaches : (task : Task) → IsDomain w task.arbiter → Reaches w (after_over w st task)
-  over_reaches task one = record { arbs = add_reaches w task.arbiter st.arbiters one reach.arbs; works = rounds_on }
+  over_reaches task one = record { arbs = add_reaches w task.arbiter st.domains one reach.arbs; works = rounds_on }
 
   end_reaches : (task : Task) → IsDomain w task.arbiter → (end : PlayEnd) → Reaches w (after_end w st task end)
   end_reaches task one plays.Done = over_reaches task one
@@ -297,8 +297,8 @@ module _ (w : Parts) (all : IsSound w) (h : List Event) (legal : IsLegal w h) (a
 
       by : (tu : Turn) → turn st ≡ tu → Reaches w (after_in w a st tu reply)
       by (settle x more) turns = settled_reaches reply more drops
-      by (admit i more) turns = admit_reaches i more (arbiters_admit st.is_short st.hand st.arbiters (spots_left st) i more turns) reply
-      by (drive spot more) turns = drive_reaches spot more (spots_so spot more (spots_drive st.is_short st.hand st.arbiters (spots_left st) spot more turns).1) reply
+      by (admit i more) turns = admit_reaches i more (domains_admit st.is_short st.hand st.domains (spots_left st) i more turns) reply
+      by (drive spot more) turns = drive_reaches spot more (spots_so spot more (spots_drive st.is_short st.hand st.domains (spots_left st) spot more turns).1) reply
       by go_on turns = work_reaches st.work works reach.works reply
       by stop turns = reach
 

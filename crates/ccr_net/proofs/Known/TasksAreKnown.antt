@@ -12,7 +12,7 @@ use Rattle.ccr_base.specs.Names.{same_task}
 use Rattle.ccr_wiring.specs.declared.parts.DomainPart.{DomainPart}
 use Rattle.ccr_wiring.specs.declared.parts.Parts.{Parts}
 use Rattle.ccr_wiring.specs.Domains.{domain_of, least_with}
-use Rattle.ccr_wiring.specs.Repeats.{are_apart, has_port, has_repeating_domain, members_in_all}
+use Rattle.ccr_wiring.specs.Repeats.{has_repeating_domain, members_in_all}
 use Rattle.ccr_wiring.specs.Valid.{IsSound, IsValid}
 use Rattle.ccr_wiring.specs.Wirings.{Placement, actions_of, awaited, branch_of, in_domain, placement, placements_from, site_port, queue_of_spot, domain_of_spot}
 use Rattle.ccr_wiring.proofs.Lists.{neither}
@@ -30,9 +30,10 @@ use Rattle.ccr_base.proofs.Booleans.{both, eq-self, same_number, not_true, or_ri
 use Rattle.ccr_model.proofs.FiredTasks.{IsFired}
 use Rattle.ccr_model.proofs.Members.{Among, Among-either}
 use Rattle.ccr_base.proofs.Options.{some-below, some_of}
+use Rattle.ccr_base.specs.Lists.{are_apart, has_number}
 use Rattle.ccr_model.proofs.PlacementDomains.{placement-within}
 use Rattle.ccr_model.proofs.PostNames.{along}
-use Rattle.ccr_model.proofs.Pushes.{firings-push}
+use Rattle.ccr_model.proofs.OneMoreEvent.{firings-push}
 use Rattle.ccr_model.proofs.TakenOnce.{FireFacts-allowed}
 use Rattle.ccr_claim.specs.Wired.{IsDomainOf, IsSpotOf, IsTaskOf}
 use Rattle.ccr_claim.specs.Plans.{firing_task}
@@ -44,78 +45,78 @@ use Rattle.ccr_net.proofs.Played.ObjectsFollowNotes.{suspended_view}
 
 -- ---- domains
 
-least-below : (least : ℕ) (xs : List ℕ) (x : ℕ) → has_port xs x ≡ true → least_with least xs ≤ x
+least-below : (least : ℕ) (xs : List ℕ) (x : ℕ) → has_number xs x ≡ true → least_with least xs ≤ x
 least-below least [] x is = absurd (cc)
 least-below least (y ∷ xs) x is = by (y == x) refl is (least-below (min least y) xs x)
   where
-    by : (b : Bool) → (y == x) ≡ b → b || has_port xs x ≡ true → (has_port xs x ≡ true → least_with (min least y) xs ≤ x) → least_with (min least y) xs ≤ x
+    by : (b : Bool) → (y == x) ≡ b → b || has_number xs x ≡ true → (has_number xs x ≡ true → least_with (min least y) xs ≤ x) → least_with (min least y) xs ≤ x
     by true same there rest = let e = same_number y x same in let low = least-low (min least y) xs in omega (arith, e, low)
     by false other there rest = rest there
 
 -- the least is the number itself, or stands there
-least-either : (least : ℕ) (xs : List ℕ) → (least_with least xs ≡ least) ⊎ (has_port xs (least_with least xs) ≡ true)
+least-either : (least : ℕ) (xs : List ℕ) → (least_with least xs ≡ least) ⊎ (has_number xs (least_with least xs) ≡ true)
 least-either least [] = inl refl
 least-either least (x ∷ xs) = by (least-either (min least x) xs)
   where
-    of_min : (t : Bool) → nat_le least x ≡ t → least_with (min least x) xs ≡ min least x → (least_with (min least x) xs ≡ least) ⊎ ((x == least_with (min least x) xs) || has_port xs (least_with (min least x) xs) ≡ true)
+    of_min : (t : Bool) → nat_le least x ≡ t → least_with (min least x) xs ≡ min least x → (least_with (min least x) xs ≡ least) ⊎ ((x == least_with (min least x) xs) || has_number xs (least_with (min least x) xs) ≡ true)
     of_min true le is = inl (is ∙ (let low : least ≤ x = grind (arith, nat_tests, le) in let e : min least x ≡ least = omega arith in e))
-    of_min false le is = inr (let high : x ≤ least = grind (arith, nat_tests, le) in let e : min least x ≡ x = omega arith in let same : (x == least_with (min least x) xs) ≡ true = ap (λ k. x == k) (is ∙ e) ∙ eq-self x in ap (λ b. b || has_port xs (least_with (min least x) xs)) same)
+    of_min false le is = inr (let high : x ≤ least = grind (arith, nat_tests, le) in let e : min least x ≡ x = omega arith in let same : (x == least_with (min least x) xs) ≡ true = ap (λ k. x == k) (is ∙ e) ∙ eq-self x in ap (λ b. b || has_number xs (least_with (min least x) xs)) same)
 
-    by : (least_with (min least x) xs ≡ min least x) ⊎ (has_port xs (least_with (min least x) xs) ≡ true) → (least_with (min least x) xs ≡ least) ⊎ ((x == least_with (min least x) xs) || has_port xs (least_with (min least x) xs) ≡ true)
+    by : (least_with (min least x) xs ≡ min least x) ⊎ (has_number xs (least_with (min least x) xs) ≡ true) → (least_with (min least x) xs ≡ least) ⊎ ((x == least_with (min least x) xs) || has_number xs (least_with (min least x) xs) ≡ true)
     by (inl is) = of_min (nat_le least x) refl is
-    by (inr there) = inr (or_right (x == least_with (min least x) xs) (has_port xs (least_with (min least x) xs)) there)
+    by (inr there) = inr (or_right (x == least_with (min least x) xs) (has_number xs (least_with (min least x) xs)) there)
 
-least-there : (least : ℕ) (xs : List ℕ) → has_port xs least ≡ true → has_port xs (least_with least xs) ≡ true
+least-there : (least : ℕ) (xs : List ℕ) → has_number xs least ≡ true → has_number xs (least_with least xs) ≡ true
 least-there least xs there = by (least-either least xs)
   where
-    by : (least_with least xs ≡ least) ⊎ (has_port xs (least_with least xs) ≡ true) → has_port xs (least_with least xs) ≡ true
-    by (inl same) = ap (has_port xs) same ∙ there
+    by : (least_with least xs ≡ least) ⊎ (has_number xs (least_with least xs) ≡ true) → has_number xs (least_with least xs) ≡ true
+    by (inl same) = ap (has_number xs) same ∙ there
     by (inr is) = is
 
-least-again : (m : ℕ) (xs : List ℕ) → ((x : ℕ) → has_port xs x ≡ true → m ≤ x) → least_with m xs ≡ m
+least-again : (m : ℕ) (xs : List ℕ) → ((x : ℕ) → has_number xs x ≡ true → m ≤ x) → least_with m xs ≡ m
 least-again m xs low = by (least-either m xs)
   where
-    by : (least_with m xs ≡ m) ⊎ (has_port xs (least_with m xs) ≡ true) → least_with m xs ≡ m
+    by : (least_with m xs ≡ m) ⊎ (has_number xs (least_with m xs) ≡ true) → least_with m xs ≡ m
     by (inl same) = same
     by (inr there) = let up = low (least_with m xs) there in let down = least-low m xs in omega (arith, up, down)
 
-port-right : (xs ys : List ℕ) (m : ℕ) → has_port (xs ++ ys) m ≡ false → has_port ys m ≡ false
+port-right : (xs ys : List ℕ) (m : ℕ) → has_number (xs ++ ys) m ≡ false → has_number ys m ≡ false
 port-right [] ys m out = out
-port-right (x ∷ xs) ys m out = port-right xs ys m (neither (x == m) (has_port (xs ++ ys) m) out).1
+port-right (x ∷ xs) ys m out = port-right xs ys m (neither (x == m) (has_number (xs ++ ys) m) out).1
 
-port-left : (xs ys : List ℕ) (m : ℕ) → has_port xs m ≡ true → has_port (xs ++ ys) m ≡ true
+port-left : (xs ys : List ℕ) (m : ℕ) → has_number xs m ≡ true → has_number (xs ++ ys) m ≡ true
 port-left [] ys m is = absurd (cc)
 port-left (x ∷ xs) ys m is = by (x == m) is (port-left xs ys m)
   where
-    by : (b : Bool) → b || has_port xs m ≡ true → (has_port xs m ≡ true → has_port (xs ++ ys) m ≡ true) → b || has_port (xs ++ ys) m ≡ true
+    by : (b : Bool) → b || has_number xs m ≡ true → (has_number xs m ≡ true → has_number (xs ++ ys) m ≡ true) → b || has_number (xs ++ ys) m ≡ true
     by true there rest = refl
     by false there rest = rest there
 
-port-later : (xs ys : List ℕ) (m : ℕ) → has_port ys m ≡ true → has_port (xs ++ ys) m ≡ true
+port-later : (xs ys : List ℕ) (m : ℕ) → has_number ys m ≡ true → has_number (xs ++ ys) m ≡ true
 port-later [] ys m is = is
 port-later (x ∷ xs) ys m is = by (x == m) (port-later xs ys m is)
   where
-    by : (b : Bool) → has_port (xs ++ ys) m ≡ true → b || has_port (xs ++ ys) m ≡ true
+    by : (b : Bool) → has_number (xs ++ ys) m ≡ true → b || has_number (xs ++ ys) m ≡ true
     by true rest = refl
     by false rest = rest
 
 apart-right : (xs ys : List ℕ) → are_apart (xs ++ ys) ≡ true → are_apart ys ≡ true
 apart-right [] ys apart = apart
-apart-right (x ∷ xs) ys apart = apart-right xs ys (both (not (has_port (xs ++ ys) x)) (are_apart (xs ++ ys)) apart).1
+apart-right (x ∷ xs) ys apart = apart-right xs ys (both (not (has_number (xs ++ ys) x)) (are_apart (xs ++ ys)) apart).1
 
-apart-split : (xs ys : List ℕ) (m : ℕ) → are_apart (xs ++ ys) ≡ true → has_port xs m ≡ true → has_port ys m ≡ false
+apart-split : (xs ys : List ℕ) (m : ℕ) → are_apart (xs ++ ys) ≡ true → has_number xs m ≡ true → has_number ys m ≡ false
 apart-split [] ys m apart is = absurd (cc)
-apart-split (x ∷ xs) ys m apart is = by (x == m) refl is (apart-split xs ys m (both (not (has_port (xs ++ ys) x)) (are_apart (xs ++ ys)) apart).1)
+apart-split (x ∷ xs) ys m apart is = by (x == m) refl is (apart-split xs ys m (both (not (has_number (xs ++ ys) x)) (are_apart (xs ++ ys)) apart).1)
   where
-    by : (b : Bool) → (x == m) ≡ b → b || has_port xs m ≡ true → (has_port xs m ≡ true → has_port ys m ≡ false) → has_port ys m ≡ false
-    by true same there rest = subst (λ k. has_port ys k ≡ false) (same_number x m same) (port-right xs ys x (not_true (has_port (xs ++ ys) x) (both (not (has_port (xs ++ ys) x)) (are_apart (xs ++ ys)) apart).0))
+    by : (b : Bool) → (x == m) ≡ b → b || has_number xs m ≡ true → (has_number xs m ≡ true → has_number ys m ≡ false) → has_number ys m ≡ false
+    by true same there rest = subst (λ k. has_number ys k ≡ false) (same_number x m same) (port-right xs ys x (not_true (has_number (xs ++ ys) x) (both (not (has_number (xs ++ ys) x)) (are_apart (xs ++ ys)) apart).0))
     by false other there rest = rest there
 
-domain-either : (ds : List DomainPart) (j : ℕ) → (domain_of ds j ≡ j) ⊎ (has_port (members_in_all ds) (domain_of ds j) ≡ true)
+domain-either : (ds : List DomainPart) (j : ℕ) → (domain_of ds j ≡ j) ⊎ (has_number (members_in_all ds) (domain_of ds j) ≡ true)
 domain-either [] j = inl refl
-domain-either (d ∷ ds) j = by (has_port d.members j) refl (domain-either ds j)
+domain-either (d ∷ ds) j = by (has_number d.members j) refl (domain-either ds j)
   where
-    by : (b : Bool) → has_port d.members j ≡ b → (domain_of ds j ≡ j) ⊎ (has_port (members_in_all ds) (domain_of ds j) ≡ true) → ((if b then least_with j d.members else domain_of ds j) ≡ j) ⊎ (has_port (d.members ++ members_in_all ds) (if b then least_with j d.members else domain_of ds j) ≡ true)
+    by : (b : Bool) → has_number d.members j ≡ b → (domain_of ds j ≡ j) ⊎ (has_number (members_in_all ds) (domain_of ds j) ≡ true) → ((if b then least_with j d.members else domain_of ds j) ≡ j) ⊎ (has_number (d.members ++ members_in_all ds) (if b then least_with j d.members else domain_of ds j) ≡ true)
     by true there rest = inr (port-left d.members (members_in_all ds) (least_with j d.members) (least-there j d.members there))
     by false out (inl same) = inl same
     by false out (inr later) = inr (port-later d.members (members_in_all ds) (domain_of ds j) later)
@@ -123,20 +124,20 @@ domain-either (d ∷ ds) j = by (has_port d.members j) refl (domain-either ds j)
 -- the domain of a domain is that domain
 domain-again : (ds : List DomainPart) (j : ℕ) → are_apart (members_in_all ds) ≡ true → domain_of ds (domain_of ds j) ≡ domain_of ds j
 domain-again [] j apart = refl
-domain-again (d ∷ ds) j apart = by (has_port d.members j) refl (domain-again ds j (apart-right d.members (members_in_all ds) apart))
+domain-again (d ∷ ds) j apart = by (has_number d.members j) refl (domain-again ds j (apart-right d.members (members_in_all ds) apart))
   where
     m : ℕ
     m = least_with j d.members
 
-    outside : has_port d.members j ≡ false → (domain_of ds j ≡ j) ⊎ (has_port (members_in_all ds) (domain_of ds j) ≡ true) → has_port d.members (domain_of ds j) ≡ false
-    outside out (inl same) = ap (has_port d.members) same ∙ out
-    outside out (inr later) = of_test (has_port d.members (domain_of ds j)) refl
+    outside : has_number d.members j ≡ false → (domain_of ds j ≡ j) ⊎ (has_number (members_in_all ds) (domain_of ds j) ≡ true) → has_number d.members (domain_of ds j) ≡ false
+    outside out (inl same) = ap (has_number d.members) same ∙ out
+    outside out (inr later) = of_test (has_number d.members (domain_of ds j)) refl
       where
-        of_test : (b : Bool) → has_port d.members (domain_of ds j) ≡ b → has_port d.members (domain_of ds j) ≡ false
+        of_test : (b : Bool) → has_number d.members (domain_of ds j) ≡ b → has_number d.members (domain_of ds j) ≡ false
         of_test false e = e
         of_test true e = absurd (let no = apart-split d.members (members_in_all ds) (domain_of ds j) apart e in cc)
 
-    by : (b : Bool) → has_port d.members j ≡ b → domain_of ds (domain_of ds j) ≡ domain_of ds j → domain_of (d ∷ ds) (if b then least_with j d.members else domain_of ds j) ≡ (if b then least_with j d.members else domain_of ds j)
+    by : (b : Bool) → has_number d.members j ≡ b → domain_of ds (domain_of ds j) ≡ domain_of ds j → domain_of (d ∷ ds) (if b then least_with j d.members else domain_of ds j) ≡ (if b then least_with j d.members else domain_of ds j)
     by true there rest = ap (λ b. if b then least_with (least_with j d.members) d.members else domain_of ds (least_with j d.members)) (least-there j d.members there) ∙ least-again (least_with j d.members) d.members (λ x is. least-below j d.members x is)
     by false out rest = ap (λ b. if b then least_with (domain_of ds j) d.members else domain_of ds (domain_of ds j)) (outside out (domain-either ds j)) ∙ rest
 

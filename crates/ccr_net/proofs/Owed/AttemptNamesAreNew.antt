@@ -29,12 +29,12 @@ use Rattle.ccr_runs.specs.Places.{queue_note}
 use Rattle.ccr_runs.specs.EntryRuns.{Lacks, state_of, same_place, reply_of}
 use Rattle.ccr_runs.specs.Visible.{visible}
 use Rattle.ccr_net.proofs.Parts.OneMoreEntry.{Step, queue_at, queue_at-push, IsNextState, state_of-own, state_of-other}
-use Rattle.ccr_net.proofs.Parts.Invariant.{IsOwed}
+use Rattle.ccr_net.proofs.Parts.PortsAndHandsMatch.{IsOwed}
 use Rattle.ccr_net.proofs.Kept.WholeInvariant.{Holds}
 use Rattle.ccr_net.proofs.Parts.TasksAreBookedOnce.{in-more, in-less}
 use Rattle.ccr_net.proofs.Owed.WorkKeepsStates.{worked}
 use Rattle.ccr_net.proofs.Owed.EntriesAreMoves.{Move, settles, drops, admits, strikes, books, claims, fires, gives_up, goes, moved, is_booked_by}
-use Rattle.ccr_net.proofs.Parts.NotesGiven.{Given, given_some}
+use Rattle.ccr_net.proofs.Parts.NotesAnswerAsks.{Given, given_some}
 
 abbrev pub is_known : QueueState → TaskId → Bool
 is_known queue t = queues.is_booked queue t || queues.is_queued queue t

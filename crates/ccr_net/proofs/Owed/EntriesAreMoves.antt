@@ -39,7 +39,7 @@ use Rattle.ccr_runs.specs.Views.{view, cut_view}
 use Rattle.ccr_runs.specs.Visible.{visible}
 use Rattle.ccr_net.proofs.Parts.OneMoreEntry.{Step, queue_at}
 use Rattle.ccr_net.proofs.Kept.WholeInvariant.{hand_settles, spots_drive}
-use Rattle.ccr_net.proofs.Parts.NotesGiven.{Given, given_to, given_some}
+use Rattle.ccr_net.proofs.Parts.NotesAnswerAsks.{Given, given_to, given_some}
 
 -- a booking that isn't refused
 abbrev pub is_booked_by : Note → Bool
@@ -54,10 +54,10 @@ handed w es e name spot = if waits w spot then None else Some (view w (visible (
 pub data Move (w : Parts) (es : List Entry) (e : Entry) (st next : State) : Type 0 where
   settles : (x : Asked) (more : List Asked) → st.hand ≡ x ∷ more → Given w es e x → next ≡ record st { hand = more } → Move w es e st next
   drops : (x : Asked) (more : List Asked) (t d : TaskId) → st.hand ≡ x ∷ more → Given w es e x → e.note ≡ notes.Put t (Some d)
-      → next ≡ record st { hand = over_dropped (view w (visible (es ++ e ∷ [])) d) ∷ more; arbiters = admit_too w st (view w (visible (es ++ e ∷ [])) d) } → Move w es e st next
-  admits : (i : ℕ) (more : List ℕ) (t : TaskId) → st.hand ≡ [] → st.arbiters ≡ i ∷ more → Given w es e (at_place (places.Arbiter i) asks.Admit) → e.note ≡ notes.Admit (Some t)
+      → next ≡ record st { hand = over_dropped (view w (visible (es ++ e ∷ [])) d) ∷ more; domains = admit_too w st (view w (visible (es ++ e ∷ [])) d) } → Move w es e st next
+  admits : (i : ℕ) (more : List ℕ) (t : TaskId) → st.hand ≡ [] → st.domains ≡ i ∷ more → Given w es e (at_place (places.Arbiter i) asks.Admit) → e.note ≡ notes.Admit (Some t)
       → next ≡ put_admitted st more (view w (visible (es ++ e ∷ [])) t) → Move w es e st next
-  strikes : (i : ℕ) (more : List ℕ) → st.hand ≡ [] → st.arbiters ≡ i ∷ more → Given w es e (at_place (places.Arbiter i) asks.Admit) → next ≡ record st { arbiters = more } → Move w es e st next
+  strikes : (i : ℕ) (more : List ℕ) → st.hand ≡ [] → st.domains ≡ i ∷ more → Given w es e (at_place (places.Arbiter i) asks.Admit) → next ≡ record st { domains = more } → Move w es e st next
   books : (spot : Spot) (more : List Spot) → st.hand ≡ [] → st.spots ≡ spot ∷ more → st.phase ≡ booking → Given w es e (attempt_ask (plan_of w spot) (name_at e.actor st) booking) → e.note ≡ notes.Book (name_at e.actor st) (resumes spot) None
       → next ≡ record st { phase = claiming (slots_in (plan_of w spot).pattern) [] } → Move w es e st next
   claims : (spot : Spot) (more : List Spot) (slot : Slot) (slots : List Slot) (had : List Had) (k : ℕ) → st.hand ≡ [] → st.spots ≡ spot ∷ more → st.phase ≡ claiming (slot ∷ slots) had → Given w es e (attempt_ask (plan_of w spot) (name_at e.actor st) (claiming (slot ∷ slots) had)) → ports.claim_note (port_at es slot.port) slot ≡ Got k → e.note ≡ notes.Claim (name_at e.actor st) slot (Got k)
@@ -148,7 +148,7 @@ module _ (w : Parts) (lacks : Lacks) (es : List Entry) (e : Entry) (step : Step 
       by_part None now = absurd (cc)
       by_part (Some part) now = by_kind part part.kind now
 
-  admitted_by : (i : ℕ) (more : List ℕ) → (st.hand ≡ []) × (st.arbiters ≡ i ∷ more) → Given w es e (at_place (places.Arbiter i) asks.Admit) → (t : Option TaskId) → e.note ≡ notes.Admit t → Move w es e st (after_admit st more (reply_of w es e))
+  admitted_by : (i : ℕ) (more : List ℕ) → (st.hand ≡ []) × (st.domains ≡ i ∷ more) → Given w es e (at_place (places.Arbiter i) asks.Admit) → (t : Option TaskId) → e.note ≡ notes.Admit t → Move w es e st (after_admit st more (reply_of w es e))
   admitted_by i more begins got (Some t) note = admits i more t begins.0 begins.1 got note (rw note refl)
   admitted_by i more begins got None note = strikes i more begins.0 begins.1 got (rw note refl)
 
@@ -181,8 +181,8 @@ module _ (w : Parts) (lacks : Lacks) (es : List Entry) (e : Entry) (step : Step 
       worked turns (Some x) asks_so = goes x turns asks_so (given_to w lacks es e step go_on x turns asks_so) refl
 
       by : (tu : Turn) → turn st ≡ tu → Move w es e st (after_in w e.actor st tu (reply_of w es e))
-      by (settle x more) turns = settled_by x more (hand_settles st.is_short st.hand st.arbiters (spots_left st) x more turns) (given_to w lacks es e step (settle x more) x turns refl) e.note refl
-      by (admit i more) turns = let got = given_to w lacks es e step (admit i more) (at_place (places.Arbiter i) asks.Admit) turns refl in let noted = admit_note_at i e.note got.gives in admitted_by i more (admit_begins st.is_short st.hand st.arbiters (spots_left st) i more turns) got noted.0 noted.1
-      by (drive spot more) turns = let begins = spots_drive st.is_short st.hand st.arbiters (spots_left st) spot more turns in driven spot more begins.0 (spots_of_left (nat_lt st.attempt (2 ^ 32)) st.spots spot more begins.1) st.phase refl (given_to w lacks es e step (drive spot more) (attempt_ask (plan_of w spot) name st.phase) turns refl)
+      by (settle x more) turns = settled_by x more (hand_settles st.is_short st.hand st.domains (spots_left st) x more turns) (given_to w lacks es e step (settle x more) x turns refl) e.note refl
+      by (admit i more) turns = let got = given_to w lacks es e step (admit i more) (at_place (places.Arbiter i) asks.Admit) turns refl in let noted = admit_note_at i e.note got.gives in admitted_by i more (admit_begins st.is_short st.hand st.domains (spots_left st) i more turns) got noted.0 noted.1
+      by (drive spot more) turns = let begins = spots_drive st.is_short st.hand st.domains (spots_left st) spot more turns in driven spot more begins.0 (spots_of_left (nat_lt st.attempt (2 ^ 32)) st.spots spot more begins.1) st.phase refl (given_to w lacks es e step (drive spot more) (attempt_ask (plan_of w spot) name st.phase) turns refl)
       by go_on turns = worked turns (work_ask e.actor st.work) refl
       by stop turns = absurd (no_some _ step.asking refl (subst (λ u. ask_in w e.actor st u ≡ Some step.asking) turns step.asks))

@@ -38,7 +38,7 @@ use Rattle.ccr_net.proofs.Parts.OneMoreEntry.{Step, state_of-own}
 use Rattle.ccr_net.proofs.Parts.WorkMatches.{WorkMatches, RunsTask}
 use Rattle.ccr_net.proofs.Parts.PhasesFitPlans.{StateFits, PhaseFits}
 use Rattle.ccr_net.proofs.Kept.WholeInvariant.{Holds, none_go_on}
-use Rattle.ccr_net.proofs.Parts.NotesGiven.{Given}
+use Rattle.ccr_net.proofs.Parts.NotesAnswerAsks.{Given}
 use Rattle.ccr_net.proofs.Owed.WorkKeepsStates.{Worked, worked}
 use Rattle.ccr_net.proofs.Owed.EntriesAreMoves.{Move, settles, drops, admits, strikes, books, claims, fires, gives_up, goes, handed, moved}
 
@@ -85,7 +85,7 @@ hands_back w spot name had = map (free_ask name) (reverse had) ++ unbook_ask (pl
 pub data Owes (w : Parts) (es : List Entry) (e : Entry) (st : State) (xs ys : List Asked) : Type 0 where
   less : (x : Asked) → Given w es e x → xs ≡ x ∷ ys → Owes w es e st xs ys
   dropped : (x : Asked) (rest : List Asked) (t d : TaskId) → Given w es e x → e.note ≡ notes.Put t (Some d) → xs ≡ x ∷ rest → ys ≡ over_dropped (view w (visible (es ++ e ∷ [])) d) ∷ rest → Owes w es e st xs ys
-  admitted : (i : ℕ) (more : List ℕ) (t : TaskId) → st.arbiters ≡ i ∷ more → Given w es e (at_place (places.Arbiter i) asks.Admit) → e.note ≡ notes.Admit (Some t) → ys ≡ put_ask (view w (visible (es ++ e ∷ [])) t) ∷ xs → Owes w es e st xs ys
+  admitted : (i : ℕ) (more : List ℕ) (t : TaskId) → st.domains ≡ i ∷ more → Given w es e (at_place (places.Arbiter i) asks.Admit) → e.note ≡ notes.Admit (Some t) → ys ≡ put_ask (view w (visible (es ++ e ∷ [])) t) ∷ xs → Owes w es e st xs ys
   booked : (spot : Spot) → Given w es e (attempt_ask (plan_of w spot) (name_at e.actor st) booking) → e.note ≡ notes.Book (name_at e.actor st) (resumes spot) None → xs ≡ [] → ys ≡ unbook_ask (plan_of w spot).queue (name_at e.actor st) ∷ [] → Owes w es e st xs ys
   got : (d : Had) (k : ℕ) → Given w es e (at_place (places.Port d.slot.port) (asks.Claim (name_at e.actor st) d.slot)) → ports.claim_note (port_at es d.slot.port) d.slot ≡ Got k → e.note ≡ notes.Claim (name_at e.actor st) d.slot (Got k) → ys ≡ free_ask (name_at e.actor st) d ∷ xs → Owes w es e st xs ys
   fired : (spot : Spot) (more : List Spot) (had : List Had) (cs : List TaskId) → st.spots ≡ spot ∷ more → st.phase ≡ claiming [] had → Given w es e (attempt_ask (plan_of w spot) (name_at e.actor st) (claiming [] had)) → e.note ≡ notes.Fired (name_at e.actor st) spot (names_of (in_pattern (plan_of w spot).pattern had)) cs
@@ -108,7 +108,7 @@ owing_next w a st new next (inr is) = ap (owing w a) is ∙ owing_short w a next
 
 -- who goes on has no attempt under way
 pub idle_booking : (w : Parts) (st : State) → StateFits w st → turn st ≡ go_on → st.phase ≡ booking
-idle_booking w st fits turns = by st.phase refl st.spots refl (nat_lt st.attempt (2 ^ 32)) refl fits.phase_so (none_go_on st.is_short st.hand st.arbiters (spots_left st) turns).1
+idle_booking w st fits turns = by st.phase refl st.spots refl (nat_lt st.attempt (2 ^ 32)) refl fits.phase_so (none_go_on st.is_short st.hand st.domains (spots_left st) turns).1
   where
     by : (ph : Phase) → st.phase ≡ ph → (spots : List Spot) → st.spots ≡ spots → (b : Bool) → nat_lt st.attempt (2 ^ 32) ≡ b → PhaseFits w st.attempt st.phase st.spots → spots_left st ≡ [] → st.phase ≡ booking
     by booking phase spots at b left fit none = phase
@@ -168,9 +168,9 @@ module _ (w : Parts) (n : ℕ) (lacks : Lacks) (es : List Entry) (e : Entry) (ho
     where
       now : owing w e.actor next ≡ more ++ in_attempt w e.actor st st.spots
       now = ap (owing w e.actor) is ∙ ap (λ xs. more ++ xs) (attempt_same w e.actor st (record st { hand = more }) st.spots refl refl)
-  of_move next (drops x more t d hand given note is) = dropped x (more ++ in_attempt w e.actor st st.spots) t d given note (rw hand refl) (ap (owing w e.actor) is ∙ ap (λ xs. over_dropped (view w (visible (es ++ e ∷ [])) d) ∷ (more ++ xs)) (attempt_same w e.actor st (record st { hand = over_dropped (view w (visible (es ++ e ∷ [])) d) ∷ more; arbiters = admit_too w st (view w (visible (es ++ e ∷ [])) d) }) st.spots refl refl))
+  of_move next (drops x more t d hand given note is) = dropped x (more ++ in_attempt w e.actor st st.spots) t d given note (rw hand refl) (ap (owing w e.actor) is ∙ ap (λ xs. over_dropped (view w (visible (es ++ e ∷ [])) d) ∷ (more ++ xs)) (attempt_same w e.actor st (record st { hand = over_dropped (view w (visible (es ++ e ∷ [])) d) ∷ more; domains = admit_too w st (view w (visible (es ++ e ∷ [])) d) }) st.spots refl refl))
   of_move next (admits i more t hand numbers given note is) = admitted i more t numbers given note (ap (owing w e.actor) is ∙ ap (λ xs. put_ask (view w (visible (es ++ e ∷ [])) t) ∷ xs) (attempt_same w e.actor st (put_admitted st more (view w (visible (es ++ e ∷ [])) t)) st.spots refl refl ∙ sym (ap (λ xs. xs ++ in_attempt w e.actor st st.spots) hand)))
-  of_move next (strikes i more hand numbers given is) = same _ given refl (ap (owing w e.actor) is ∙ ap (λ xs. st.hand ++ xs) (attempt_same w e.actor st (record st { arbiters = more }) st.spots refl refl))
+  of_move next (strikes i more hand numbers given is) = same _ given refl (ap (owing w e.actor) is ∙ ap (λ xs. st.hand ++ xs) (attempt_same w e.actor st (record st { domains = more }) st.spots refl refl))
   of_move next (books spot more hand spots phase given note is) = booked spot given note (under_way spot more booking hand spots phase) (ap (owing w e.actor) is ∙ rw (hand, spots) refl)
   of_move next (claims spot more slot slots had k hand spots phase given free note is) = got d k given free note (ap (owing w e.actor) is ∙ rw (hand, spots) (ap (λ ds. map (free_ask name) ds ++ unbook_ask (plan_of w spot).queue name ∷ []) (reverse-append had (d ∷ []))) ∙ ap (λ xs. free_ask name d ∷ xs) (sym (under_way spot more (claiming (slot ∷ slots) had) hand spots phase)))
     where

@@ -22,7 +22,7 @@ use Rattle.ccr_model.specs.declared.history.EndHow.TheVariants as ends
 use Rattle.ccr_model.specs.Firings.{last_by}
 use Rattle.ccr_model.specs.Sites.{root_of}
 use Rattle.ccr_model.specs.Tasks.{is_over}
-use Rattle.ccr_model.proofs.Alone.{over_stays, lasts_fired}
+use Rattle.ccr_model.proofs.ExclusiveRootsAreAlone.{over_stays, lasts_fired}
 use Rattle.ccr_base.proofs.Booleans.{no_both, or_left}
 use Rattle.ccr_base.proofs.Options.{no_some}
 use Rattle.ccr_model.proofs.FiredTasks.{root_stays}
@@ -43,11 +43,11 @@ use Rattle.ccr_runs.specs.Places.{note_of, given, note_at_arbiter, note_by_kind,
 use Rattle.ccr_runs.specs.EntryRuns.{Lacks, state_of, notes_at, note_at, same_place}
 use Rattle.ccr_runs.specs.Visible.{visible, event_of, shown}
 use Rattle.ccr_net.proofs.Parts.OneMoreEntry.{Step, notes_at-push, visible-push}
-use Rattle.ccr_net.proofs.Parts.Invariant.{IsOwed}
+use Rattle.ccr_net.proofs.Parts.PortsAndHandsMatch.{IsOwed}
 use Rattle.ccr_net.proofs.Parts.EventsChangeDomains.{over_now}
 use Rattle.ccr_net.proofs.Kept.WholeInvariant.{Holds}
 use Rattle.ccr_net.proofs.Owed.EntriesAreMoves.{commit_notes, IsCommitNote}
-use Rattle.ccr_net.proofs.Parts.NotesGiven.{Given, given_some, none_at, over_note}
+use Rattle.ccr_net.proofs.Parts.NotesAnswerAsks.{Given, given_some, none_at, over_note}
 use Rattle.ccr_net.proofs.Owed.EntriesChangeOwing.{Owes, less, dropped, admitted, booked, got, fired, same, ended, owes, is_quiet, is_run_end, Runs}
 use Rattle.ccr_net.proofs.Owed.OwedByOneOnce.{owed_by, owed_each}
 

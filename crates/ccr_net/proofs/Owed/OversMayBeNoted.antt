@@ -56,14 +56,14 @@ use Rattle.ccr_runs.specs.EntryRuns.{Lacks, state_of, notes_at, same_place}
 use Rattle.ccr_runs.specs.Views.{cut_view, domain_of_task}
 use Rattle.ccr_runs.specs.Visible.{visible, shown}
 use Rattle.ccr_net.proofs.Parts.OneMoreEntry.{Step, notes_at-push, visible-push}
-use Rattle.ccr_net.proofs.Parts.Invariant.{IsOwed}
+use Rattle.ccr_net.proofs.Parts.PortsAndHandsMatch.{IsOwed}
 use Rattle.ccr_net.proofs.Parts.ArbitersMatch.{fired_there, is_of, kept_shape, none_at_first}
 use Rattle.ccr_net.proofs.Kept.WholeInvariant.{Holds}
 use Rattle.ccr_net.proofs.Parts.TasksAreBookedOnce.{in-more, in-less}
 use Rattle.ccr_net.proofs.Parts.DomainsMatch.{domain_at, IsKeptRoot}
 use Rattle.ccr_net.proofs.Parts.MeterMatches.{bit}
 use Rattle.ccr_net.proofs.Owed.EntriesAreMoves.{handed}
-use Rattle.ccr_net.proofs.Parts.NotesGiven.{Given, given_some, over_note}
+use Rattle.ccr_net.proofs.Parts.NotesAnswerAsks.{Given, given_some, over_note}
 use Rattle.ccr_net.proofs.Owed.NotedOversAreOver.{OversNoted, over_so, over_there}
 use Rattle.ccr_net.proofs.Owed.EntriesChangeOwing.{Owes, less, dropped, admitted, booked, got, fired, same, ended, owes, is_quiet}
 use Rattle.ccr_net.proofs.Owed.OwedByOneOnce.{owed_by, owed_each, last_allowed}

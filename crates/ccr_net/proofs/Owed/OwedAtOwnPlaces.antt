@@ -52,7 +52,7 @@ abbrev pub AllPlaced : Parts → Lacks → List Entry → Type 0
 AllPlaced w lacks es = (a : ℕ) → ArePlaced (owed_by w lacks es a)
 
 abbrev pub AllInterleaves : Parts → Lacks → List Entry → Type 0
-AllInterleaves w lacks es = (a : ℕ) → AreInterleaves w (state_of w lacks es a).arbiters
+AllInterleaves w lacks es = (a : ℕ) → AreInterleaves w (state_of w lacks es a).domains
 
 placed_map : {X : Type 0} (f : X → Asked) → ((y : X) → is_placed (f y) ≡ true) → (ys : List X) → ArePlaced (map f ys)
 placed_map f each [] x is = absurd is
@@ -122,38 +122,38 @@ module _ (w : Parts) (domains : HasDomains w) (lacks : Lacks) (es : List Entry) 
   abbrev now : State
   now = state_of w lacks es e.actor
 
-  numbers_on : (next : State) → Move w es e now next → AreInterleaves w now.arbiters → AreInterleaves w next.arbiters
-  numbers_on next (settles x more hand given is) are = subst (λ (s : State). AreInterleaves w s.arbiters) (sym is) are
-  numbers_on next (drops x more t d hand given note is) are = subst (λ (s : State). AreInterleaves w s.arbiters) (sym is) (by (nat_lt now.admitted 32768))
+  numbers_on : (next : State) → Move w es e now next → AreInterleaves w now.domains → AreInterleaves w next.domains
+  numbers_on next (settles x more hand given is) are = subst (λ (s : State). AreInterleaves w s.domains) (sym is) are
+  numbers_on next (drops x more t d hand given note is) are = subst (λ (s : State). AreInterleaves w s.domains) (sym is) (by (nat_lt now.admitted 32768))
     where
       v : Task
       v = view w (visible (es ++ e ∷ [])) d
 
-      by : (c : Bool) → AreInterleaves w (if c then add_arbiter w v.arbiter now.arbiters else now.arbiters)
-      by true = add_interleave w v.arbiter now.arbiters are
+      by : (c : Bool) → AreInterleaves w (if c then add_arbiter w v.arbiter now.domains else now.domains)
+      by true = add_interleave w v.arbiter now.domains are
       by false = are
-  numbers_on next (admits i more t hand numbers given note is) are = subst (λ (s : State). AreInterleaves w s.arbiters) (sym is) (by (nat_lt (now.admitted + 1) 32768))
+  numbers_on next (admits i more t hand numbers given note is) are = subst (λ (s : State). AreInterleaves w s.domains) (sym is) (by (nat_lt (now.admitted + 1) 32768))
     where
-      by : (c : Bool) → AreInterleaves w (if c then now.arbiters else [])
+      by : (c : Bool) → AreInterleaves w (if c then now.domains else [])
       by true = are
       by false = λ j none. absurd none
-  numbers_on next (strikes i more hand numbers given is) are = subst (λ (s : State). AreInterleaves w s.arbiters) (sym is) (λ j there. are j (subst (Among j) (sym numbers) (inr there)))
-  numbers_on next (books spot more hand spots phase given note is) are = subst (λ (s : State). AreInterleaves w s.arbiters) (sym is) are
-  numbers_on next (claims spot more slot slots had j hand spots phase given free note is) are = subst (λ (s : State). AreInterleaves w s.arbiters) (sym is) are
-  numbers_on next (fires spot more had cs hand spots phase given note is) are = subst (λ (s : State). AreInterleaves w s.arbiters) (sym is) (fired_admits w domains spot (view w (visible (es ++ e ∷ [])) (name_at e.actor now)) (waits w spot) refl)
-  numbers_on next (gives_up spot more hand spots given quiet is) are = subst (λ (s : State). AreInterleaves w s.arbiters) (sym is) are
-  numbers_on next (goes x turns asks given is) are = subst (λ (s : State). AreInterleaves w s.arbiters) (sym is) ((worked w now now.work refl (reply_of w es e)).numbers are)
+  numbers_on next (strikes i more hand numbers given is) are = subst (λ (s : State). AreInterleaves w s.domains) (sym is) (λ j there. are j (subst (Among j) (sym numbers) (inr there)))
+  numbers_on next (books spot more hand spots phase given note is) are = subst (λ (s : State). AreInterleaves w s.domains) (sym is) are
+  numbers_on next (claims spot more slot slots had j hand spots phase given free note is) are = subst (λ (s : State). AreInterleaves w s.domains) (sym is) are
+  numbers_on next (fires spot more had cs hand spots phase given note is) are = subst (λ (s : State). AreInterleaves w s.domains) (sym is) (fired_admits w domains spot (view w (visible (es ++ e ∷ [])) (name_at e.actor now)) (waits w spot) refl)
+  numbers_on next (gives_up spot more hand spots given quiet is) are = subst (λ (s : State). AreInterleaves w s.domains) (sym is) are
+  numbers_on next (goes x turns asks given is) are = subst (λ (s : State). AreInterleaves w s.domains) (sym is) ((worked w now now.work refl (reply_of w es e)).numbers are)
 
   pub all_interleaves-kept : AllInterleaves w lacks es → AllInterleaves w lacks (es ++ e ∷ [])
   all_interleaves-kept are a = by (e.actor == a) refl
     where
-      own : AreInterleaves w (after w e.actor now (reply_of w es e)).arbiters
+      own : AreInterleaves w (after w e.actor now (reply_of w es e)).domains
       own = numbers_on (after w e.actor now (reply_of w es e)) (moved w lacks es e step) (are e.actor)
 
-      of_next : IsNextState w e.actor now (reply_of w es e) (state_of w lacks (es ++ e ∷ []) e.actor) → AreInterleaves w (state_of w lacks (es ++ e ∷ []) e.actor).arbiters
-      of_next (inl is) = subst (λ (s : State). AreInterleaves w s.arbiters) (sym is) own
-      of_next (inr is) = subst (λ (s : State). AreInterleaves w s.arbiters) (sym is) own
+      of_next : IsNextState w e.actor now (reply_of w es e) (state_of w lacks (es ++ e ∷ []) e.actor) → AreInterleaves w (state_of w lacks (es ++ e ∷ []) e.actor).domains
+      of_next (inl is) = subst (λ (s : State). AreInterleaves w s.domains) (sym is) own
+      of_next (inr is) = subst (λ (s : State). AreInterleaves w s.domains) (sym is) own
 
-      by : (c : Bool) → (e.actor == a) ≡ c → AreInterleaves w (state_of w lacks (es ++ e ∷ []) a).arbiters
-      by true is = subst (λ b. AreInterleaves w (state_of w lacks (es ++ e ∷ []) b).arbiters) (same_number e.actor a is) (of_next (state_of-own w lacks es e e.actor (eq-self e.actor)))
-      by false is = subst (λ (s : State). AreInterleaves w s.arbiters) (sym (state_of-other w lacks es e a is)) (are a)
+      by : (c : Bool) → (e.actor == a) ≡ c → AreInterleaves w (state_of w lacks (es ++ e ∷ []) a).domains
+      by true is = subst (λ b. AreInterleaves w (state_of w lacks (es ++ e ∷ []) b).domains) (same_number e.actor a is) (of_next (state_of-own w lacks es e e.actor (eq-self e.actor)))
+      by false is = subst (λ (s : State). AreInterleaves w s.domains) (sym (state_of-other w lacks es e a is)) (are a)

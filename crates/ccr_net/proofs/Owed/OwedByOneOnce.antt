@@ -18,7 +18,7 @@ use Rattle.ccr_actor.specs.Plans.{plan_of}
 use Rattle.ccr_actor.specs.Actors.{in_attempt}
 use Rattle.ccr_runs.specs.EntryRuns.{Lacks, state_of, same_place, port_at}
 use Rattle.ccr_runs.specs.Visible.{visible}
-use Rattle.ccr_net.proofs.Parts.Invariant.{IsOwed}
+use Rattle.ccr_net.proofs.Parts.PortsAndHandsMatch.{IsOwed}
 use Rattle.ccr_net.proofs.Parts.StepsKeepActors.{release_owed}
 use Rattle.ccr_net.proofs.Parts.OneMoreEntry.{state_of-other}
 use Rattle.ccr_net.proofs.Parts.MeterMatches.{bit}

@@ -32,7 +32,7 @@ use Rattle.ccr_runs.specs.EntryRuns.{Lacks, state_of, port_at, same_place}
 use Rattle.ccr_net.proofs.Parts.OneMoreEntry.{Step, port_at-push}
 use Rattle.ccr_net.proofs.Kept.WholeInvariant.{Holds, port_changes}
 use Rattle.ccr_net.proofs.Parts.MeterMatches.{bit}
-use Rattle.ccr_net.proofs.Parts.NotesGiven.{Given, given_some}
+use Rattle.ccr_net.proofs.Parts.NotesAnswerAsks.{Given, given_some}
 use Rattle.ccr_runs.specs.Views.{cut_view}
 use Rattle.ccr_runs.specs.Visible.{visible}
 use Rattle.ccr_net.proofs.Owed.EntriesAreMoves.{handed}
@@ -66,10 +66,10 @@ unclaims-quiet asks.Left is = refl
 abbrev pub is_claimed : List Entry → ℕ → TaskId → Bool
 is_claimed es p t = is_claimed_by (port_at es p) t
 
-abbrev is_about : ℕ → TaskId → Asked → Bool
+abbrev pub is_about : ℕ → TaskId → Asked → Bool
 is_about p t x = owed.is_about places.Port unclaims p t x
 
-abbrev many : ℕ → TaskId → List Asked → ℕ
+abbrev pub many : ℕ → TaskId → List Asked → ℕ
 many p t xs = owed.many places.Port unclaims p t xs
 
 -- the claims are owed once

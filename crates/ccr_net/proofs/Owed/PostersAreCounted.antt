@@ -25,13 +25,13 @@ use Rattle.ccr_runs.specs.Places.{meter_note}
 use Rattle.ccr_runs.specs.EntryRuns.{Lacks, state_of, same_place, reply_of}
 use Rattle.ccr_runs.specs.Visible.{visible}
 use Rattle.ccr_net.proofs.Parts.OneMoreEntry.{Step, state_of-own, state_of-other}
-use Rattle.ccr_net.proofs.Parts.Invariant.{IsOwed}
+use Rattle.ccr_net.proofs.Parts.PortsAndHandsMatch.{IsOwed}
 use Rattle.ccr_net.proofs.Parts.MeterMatches.{bit, count, count-one, count-same}
 use Rattle.ccr_net.proofs.Parts.WorkMatches.{WorkMatches}
 use Rattle.ccr_net.proofs.Kept.WholeInvariant.{Holds, works_of, meter_at, meter_at-push, next_work}
 use Rattle.ccr_net.proofs.Owed.WorkKeepsStates.{is_scripted, LeavesBy, worked}
 use Rattle.ccr_net.proofs.Owed.EntriesAreMoves.{Move, settles, drops, admits, strikes, books, claims, fires, gives_up, goes, moved}
-use Rattle.ccr_net.proofs.Parts.NotesGiven.{Given}
+use Rattle.ccr_net.proofs.Parts.NotesAnswerAsks.{Given}
 
 abbrev pub scripted : Parts → Lacks → List Entry → ℕ → Bool
 scripted w lacks es a = is_scripted (works_of w lacks es a)

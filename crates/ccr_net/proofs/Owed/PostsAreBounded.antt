@@ -25,7 +25,7 @@ use Rattle.ccr_base.proofs.Booleans.{same_number, eq-self, both}
 use Rattle.ccr_base.proofs.Options.{some-below}
 use Rattle.ccr_model.proofs.Members.{Among}
 use Rattle.ccr_model.proofs.PostNames.{along, refused_not}
-use Rattle.ccr_model.proofs.Pushes.{posts-push}
+use Rattle.ccr_model.proofs.OneMoreEvent.{posts-push}
 use Rattle.ccr_places.specs.declared.claims.StandingClaim.{StandingClaim}
 use Rattle.ccr_places.specs.declared.notes.ClaimNote.TheVariants.{Got, Busy, Short}
 use Rattle.ccr_places.specs.declared.notes.Note.{Note}

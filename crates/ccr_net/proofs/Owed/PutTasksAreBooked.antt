@@ -49,14 +49,14 @@ use Rattle.ccr_runs.specs.EntryRuns.{Lacks, state_of, port_at, same_place, waits
 use Rattle.ccr_runs.specs.Views.{view, cut_view, queue_of}
 use Rattle.ccr_runs.specs.Visible.{visible, shown}
 use Rattle.ccr_net.proofs.Parts.OneMoreEntry.{Step, queue_at, queue_at-push, visible-push}
-use Rattle.ccr_net.proofs.Parts.Invariant.{IsOwed, IsToPut}
+use Rattle.ccr_net.proofs.Parts.PortsAndHandsMatch.{IsOwed, IsToPut}
 use Rattle.ccr_net.proofs.Parts.StepsKeepActors.{unfired, queue_stays}
 use Rattle.ccr_net.proofs.Kept.WholeInvariant.{Holds, queue_changes, same_queues, is_queue_place}
 use Rattle.ccr_net.proofs.Parts.TasksAreBookedOnce.{in-more, in-less}
 use Rattle.ccr_net.proofs.Parts.BookedHasRoom.{is_for, fired_for}
 use Rattle.ccr_net.proofs.Parts.MeterMatches.{bit}
 use Rattle.ccr_net.proofs.Owed.EntriesAreMoves.{handed}
-use Rattle.ccr_net.proofs.Parts.NotesGiven.{Given, given_some}
+use Rattle.ccr_net.proofs.Parts.NotesAnswerAsks.{Given, given_some}
 use Rattle.ccr_net.proofs.Owed.EntriesChangeOwing.{Owes, less, dropped, admitted, booked, got, fired as has_fired, same, ended, owes, is_quiet}
 use Rattle.ccr_net.proofs.Owed.OwedByOneOnce.{owed_by, owed_each, last_allowed}
 use Rattle.ccr_net.proofs.Owed.OwedByOneOnce as owed
@@ -87,10 +87,10 @@ unbooks-quiet asks.Left is = refl
 abbrev pub is_booked_at : Parts → List Entry → ℕ → TaskId → Bool
 is_booked_at w es q t = queues.is_booked (queue_at w es q) t
 
-abbrev is_about : ℕ → TaskId → Asked → Bool
+abbrev pub is_about : ℕ → TaskId → Asked → Bool
 is_about q t x = owed.is_about places.Queue unbooks q t x
 
-abbrev many : ℕ → TaskId → List Asked → ℕ
+abbrev pub many : ℕ → TaskId → List Asked → ℕ
 many q t xs = owed.many places.Queue unbooks q t xs
 
 -- the bookings are owed once

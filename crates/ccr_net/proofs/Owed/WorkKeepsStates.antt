@@ -37,7 +37,7 @@ pub record Worked (w : Parts) (st next : State) : Type 0 where
   pub hand : next.hand ≡ st.hand
   pub phase : next.phase ≡ st.phase
   pub attempt : next.attempt ≡ st.attempt
-  pub numbers : AreInterleaves w st.arbiters → AreInterleaves w next.arbiters
+  pub numbers : AreInterleaves w st.domains → AreInterleaves w next.domains
   pub leaves : LeavesBy st.work next.work
 
 pub add_interleave : (w : Parts) (i : ℕ) (numbers : List ℕ) → AreInterleaves w numbers → AreInterleaves w (add_arbiter w i numbers)
@@ -75,7 +75,7 @@ stays : (w : Parts) (st : State) → Worked w st st
 stays w st = record { hand = refl; phase = refl; attempt = refl; numbers = λ are. are; leaves = inl refl }
 
 overs : (w : Parts) (st : State) (task : Task) → is_scripted st.work ≡ false → Worked w st (after_over w st task)
-overs w st task none = record { hand = refl; phase = refl; attempt = refl; numbers = add_interleave w task.arbiter st.arbiters; leaves = inl (next_round-unscripted st.taken ∙ sym none) }
+overs w st task none = record { hand = refl; phase = refl; attempt = refl; numbers = add_interleave w task.arbiter st.domains; leaves = inl (next_round-unscripted st.taken ∙ sym none) }
 
 ends : (w : Parts) (st : State) (task : Task) (end : PlayEnd) → is_scripted st.work ≡ false → Worked w st (after_end w st task end)
 ends w st task plays.Done none = overs w st task none

@@ -26,7 +26,7 @@ use Rattle.ccr_base.proofs.Booleans.{same_number, eq-self, refuted, no_both, or_
 use Rattle.ccr_model.proofs.Allowing.{OneName-legal}
 use Rattle.ccr_model.proofs.AllowedFirings.{fired_by_named}
 use Rattle.ccr_model.proofs.Members.{Among, Among-either}
-use Rattle.ccr_model.proofs.Pushes.{firings-push, put-push, cut-push}
+use Rattle.ccr_model.proofs.OneMoreEvent.{firings-push, put-push, cut-push}
 use Rattle.ccr_model.proofs.SameNames.{same_task-is, same_task-self}
 use Rattle.ccr_model.proofs.TasksLeft.{of_without, out_left, distinct-filter}
 use Rattle.ccr_model.proofs.TaskLists.{to_filter, to_without, not_within, of_more, of_one, out_right}

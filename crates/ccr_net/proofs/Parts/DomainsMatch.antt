@@ -15,13 +15,12 @@ use Rattle.ccr_base.specs.declared.names.Spot.TheVariants.{Branch, Site}
 use Rattle.ccr_base.specs.declared.names.TaskId.{TaskId}
 use Rattle.ccr_base.specs.declared.policies.Group.{Group}
 use Rattle.ccr_base.specs.declared.tasks.How.{How}
-use Rattle.ccr_base.specs.declared.policies.Group.TheVariants as groups
 use Rattle.ccr_base.specs.Names.{same_task, has_task, without}
 use Rattle.ccr_wiring.specs.declared.parts.Parts.{Parts}
 use Rattle.ccr_wiring.specs.Wirings.{Placement, placement, placements, branch_of}
 use Rattle.ccr_model.specs.declared.history.Event.{Event}
 use Rattle.ccr_model.specs.declared.history.Event.TheVariants as events
-use Rattle.ccr_model.specs.Firings.{Firing, firing_of, fired, cut, ever_admitted, admitted_by, spot_of}
+use Rattle.ccr_model.specs.Firings.{Firing, firing_of, fired, ever_admitted, admitted_by, spot_of}
 use Rattle.ccr_model.specs.Interleaves.{is_placement_in}
 use Rattle.ccr_model.specs.Legal.{IsAllowed, IsLegal}
 use Rattle.ccr_model.specs.Live.{is_none_of}
@@ -33,7 +32,7 @@ use Rattle.ccr_base.proofs.Booleans.{both, refuted, no_both, same_number, eq-sel
 use Rattle.ccr_model.proofs.FiredTasks.{IsFired, placement_stays}
 use Rattle.ccr_model.proofs.AllowedFirings.{firing_named-new, FiresSo-allowed, BranchFacts-where, WaitingFacts, WaitingFacts-waiting}
 use Rattle.ccr_model.proofs.Members.{Among, Among-either}
-use Rattle.ccr_model.proofs.Pushes.{ever_admitted-push}
+use Rattle.ccr_model.proofs.OneMoreEvent.{ever_admitted-push}
 use Rattle.ccr_model.proofs.Roots.{AdmittedFacts-admitted}
 use Rattle.ccr_model.proofs.SameNames.{same_task-is, same_task-self}
 use Rattle.ccr_model.proofs.TaskLists.{without_other, without_first, of_more, of_one, has_oldest, none_gone}
@@ -80,20 +79,10 @@ pub record DomainMatches (w : Parts) (h : List Event) (i : ℕ) (place : Interle
 -- ---- groups
 
 same_teardown : (g : Group) → interleaves.is_teardown (Some g) ≡ is_teardown g
-same_teardown groups.Once = refl
-same_teardown groups.Always = refl
-same_teardown groups.Choice = refl
-same_teardown groups.Teardown = refl
-same_teardown groups.Exclusive = refl
-same_teardown groups.Concurrent = refl
+same_teardown g = refl
 
 same_concurrent : (g : Group) → interleaves.is_concurrent (Some g) ≡ is_concurrent g
-same_concurrent groups.Once = refl
-same_concurrent groups.Always = refl
-same_concurrent groups.Choice = refl
-same_concurrent groups.Teardown = refl
-same_concurrent groups.Exclusive = refl
-same_concurrent groups.Concurrent = refl
+same_concurrent g = refl
 
 abbrev group_of : Placement → Group
 group_of s = s.branch.group

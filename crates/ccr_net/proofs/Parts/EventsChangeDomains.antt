@@ -19,13 +19,13 @@ use Rattle.ccr_model.specs.Legal.{IsAllowed, IsLegal}
 use Rattle.ccr_model.specs.Rules.{is_concurrent_task}
 use Rattle.ccr_model.specs.Tasks.{is_branch_where, fired_by, waiting, admitted, is_over, is_of_domain}
 use Rattle.ccr_model.proofs.Allowing.{OneName-legal}
-use Rattle.ccr_model.proofs.Alone.{over_stays, lasts_fired, ever_admitted_fired}
+use Rattle.ccr_model.proofs.ExclusiveRootsAreAlone.{over_stays, lasts_fired, ever_admitted_fired}
 use Rattle.ccr_base.proofs.Booleans.{refuted, no_both, or_left, or_right, eq-self}
 use Rattle.ccr_model.proofs.Cutting.{fired_by-append, cut_by}
 use Rattle.ccr_model.proofs.FiredTasks.{IsFired, IsFired-append, fired_has, placement_stays}
 use Rattle.ccr_model.proofs.AllowedFirings.{FiresSo-allowed}
 use Rattle.ccr_model.proofs.LegalParts.{along_legal}
-use Rattle.ccr_model.proofs.Pushes.{firings-push, ever_admitted-push, cut-push, last-push}
+use Rattle.ccr_model.proofs.OneMoreEvent.{firings-push, ever_admitted-push, cut-push, last-push}
 use Rattle.ccr_model.proofs.Roots.{AdmittedFacts-admitted, admitted_whole}
 use Rattle.ccr_model.proofs.SameNames.{same_task-is, same_task-self}
 use Rattle.ccr_model.proofs.Stable.{firing_named-append}

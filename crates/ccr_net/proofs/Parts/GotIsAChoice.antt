@@ -23,9 +23,9 @@ use Rattle.ccr_model.specs.Choice.{is_choice_of, are_first, are_split}
 use Rattle.ccr_model.specs.Firings.{fired}
 use Rattle.ccr_model.specs.Posts.{posts, held}
 use Rattle.ccr_base.proofs.Booleans.{or_left, or_right}
-use Rattle.ccr_model.proofs.Members.{Among}
+use Rattle.ccr_model.proofs.Members.{Among, Among-map}
 use Rattle.ccr_model.proofs.PostNames.{AreNamed}
-use Rattle.ccr_model.proofs.Pushes.{fired-fire}
+use Rattle.ccr_model.proofs.OneMoreEvent.{fired-fire}
 use Rattle.ccr_model.proofs.SameNames.{same_task-is, same_message-self}
 use Rattle.ccr_model.proofs.MessageNames.{any_fits}
 use Rattle.ccr_model.proofs.Allowing.{are_first-is_split}
@@ -35,8 +35,8 @@ use Rattle.ccr_claim.specs.Plans.{had_at, ports_in, in_slots, in_pattern, names_
 use Rattle.ccr_claim.specs.declared.asks.Asked.{Asked}
 use Rattle.ccr_claim.specs.Attempts.{had_in}
 use Rattle.ccr_actor.specs.Actors.{State, name_at}
-use Rattle.ccr_net.proofs.Parts.Invariant.{PortsMatch, ActorMatches, put_in, puts_in}
-use Rattle.ccr_net.proofs.Parts.GotNamesStandAlone.{Among-map, Among-mapped, sorted_among, among_sorted, choice_slots, same_lists-self, had_at-is, held_had}
+use Rattle.ccr_net.proofs.Parts.PortsAndHandsMatch.{PortsMatch, ActorMatches, put_in, puts_in}
+use Rattle.ccr_net.proofs.Parts.GotNamesStandAlone.{Among-mapped, sorted_among, among_sorted, choice_slots, same_lists-self, had_at-is, held_had}
 use Rattle.ccr_net.proofs.Parts.PhasesFitPlans.{Fits, slot_had, lower, higher}
 use Rattle.ccr_net.proofs.Kept.WhatWiringsHave.{IsEven}
 

@@ -24,9 +24,9 @@ use Rattle.ccr_claim.specs.Plans.{had_at, names_of, insert_slot, sort_slots}
 use Rattle.ccr_claim.specs.Attempts.{had_in}
 use Rattle.ccr_actor.specs.Actors.{State, name_at}
 use Rattle.ccr_net.proofs.Parts.PostsKeepMarks.{has_name, has_name-append, first_named}
-use Rattle.ccr_net.proofs.Parts.Invariant.{PortsMatch, ActorMatches, claim_for}
+use Rattle.ccr_net.proofs.Parts.PortsAndHandsMatch.{PortsMatch, ActorMatches, claim_for}
 use Rattle.ccr_net.proofs.Parts.StepsKeepPorts.{IsTouched}
-use Rattle.ccr_net.proofs.Parts.HeldApart.{held_apart, held_posted}
+use Rattle.ccr_net.proofs.Parts.NamesStandAtOnePort.{held_apart, held_posted}
 
 -- ---- lists
 
@@ -46,11 +46,6 @@ found_some {X} t (y ∷ xs) x is passes = by (t y) refl is (λ among. found_some
     by true e among rest = (y, refl)
     by false e (inl same) rest = absurd (let now : t y ≡ true = ap t (sym same) ∙ passes in cc)
     by false e (inr among) rest = rest among
-
-pub Among-map : {X Y : Type 0} (f : X → Y) (xs : List X) (x : X) → Among x xs → Among (f x) (map f xs)
-Among-map f [] x is = absurd is
-Among-map f (y ∷ xs) x (inl e) = inl (ap f e)
-Among-map f (y ∷ xs) x (inr is) = inr (Among-map f xs x is)
 
 pub Among-mapped : {X Y : Type 0} (f : X → Y) (xs : List X) (y : Y) → Among y (map f xs) → (x : X) × Among x xs × (f x ≡ y)
 Among-mapped f [] y is = absurd is

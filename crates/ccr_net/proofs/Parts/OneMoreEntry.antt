@@ -4,6 +4,7 @@ use Rattle.std.specs.Prelude.{◌==◌, if◌then◌else◌, nat_le}
 use Rattle.std.specs.Option.{option_map, option_and_then}
 use Rattle.std.proofs.lemmas.Grind.{common_steps}
 use Rattle.std.proofs.lemmas.Bool.Decides.{nat_tests}
+use Rattle.std.proofs.lemmas.List.{drop-append-le}
 use Rattle.ccr_base.specs.declared.names.Place.{Place}
 use Rattle.ccr_base.specs.declared.names.Place.TheVariants as places
 use Rattle.ccr_wiring.specs.declared.parts.Parts.{Parts}
@@ -14,7 +15,7 @@ use Rattle.ccr_places.specs.Queues.{QueueState}
 use Rattle.ccr_claim.specs.declared.asks.Reply.{Reply}
 use Rattle.ccr_claim.specs.declared.asks.Asked.{Asked}
 use Rattle.ccr_actor.specs.Actors.{State, asked, after, after_all, shorten, start, state_after}
-use Rattle.ccr_actor.proofs.Followed.{after-more}
+use Rattle.ccr_actor.proofs.ActorsFollowTheirSteps.{after-more}
 use Rattle.ccr_runs.specs.declared.entries.Entry.{Entry}
 use Rattle.ccr_runs.specs.Visible.{visible, event_of}
 use Rattle.ccr_runs.specs.Places.{note_of, queue_after}
@@ -48,11 +49,6 @@ take-before zero xs ys low = refl
 take-before (suc n) [] ys low = absurd (omega arith)
 take-before (suc n) (x ∷ xs) ys low = ap (λ front. x ∷ front) (take-before n xs ys (omega arith))
 
-drop-before : {X : Type 0} (n : ℕ) (xs ys : List X) → n ≤ length xs → drop n (xs ++ ys) ≡ drop n xs ++ ys
-drop-before zero xs ys low = refl
-drop-before (suc n) [] ys low = absurd (omega arith)
-drop-before (suc n) (x ∷ xs) ys low = drop-before n xs ys (omega arith)
-
 pub take-whole : {X : Type 0} (n : ℕ) (xs : List X) → length xs ≤ n → take n xs ≡ xs
 take-whole zero [] low = refl
 take-whole zero (x ∷ xs) low = absurd (omega arith)
@@ -83,7 +79,7 @@ state_after-push w a (Some n) rs r = by (nat_le n (length rs)) (nat_le n (length
     short_at given = after_all w a (shorten w a (after_all w a begun (take n given))) (drop n given)
 
     by : (b c : Bool) → nat_le n (length rs) ≡ b → nat_le n (length (rs ++ r ∷ [])) ≡ c → IsNextState w a (if b then short_at rs else after_all w a begun rs) r (if c then short_at (rs ++ r ∷ []) else after_all w a begun (rs ++ r ∷ []))
-    by true true before now = inl (let low : n ≤ length rs = grind (arith, nat_tests, before) in rw (take-before n rs (r ∷ []) low, drop-before n rs (r ∷ []) low) (after-more w a (shorten w a (after_all w a begun (take n rs))) (drop n rs) r))
+    by true true before now = inl (let low : n ≤ length rs = grind (arith, nat_tests, before) in rw (take-before n rs (r ∷ []) low, drop-append-le n rs (r ∷ []) low) (after-more w a (shorten w a (after_all w a begun (take n rs))) (drop n rs) r))
     by true false before now = absurd (let low : n ≤ length rs = grind (arith, nat_tests, before) in let high : length (rs ++ r ∷ []) < n = grind (arith, nat_tests, now) in omega (arith, low, high, longer))
     by false false before now = inl (after-more w a begun rs r)
     by false true before now = inr (let all : length (rs ++ r ∷ []) ≤ n = (let high : length rs < n = grind (arith, nat_tests, before) in omega (arith, high, longer)) in rw (take-whole n (rs ++ r ∷ []) all, drop-whole n (rs ++ r ∷ []) all) (ap (shorten w a) (after-more w a begun rs r)))

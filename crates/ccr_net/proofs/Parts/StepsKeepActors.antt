@@ -21,7 +21,7 @@ use Rattle.ccr_model.specs.Legal.{IsLegal, IsAllowed}
 use Rattle.ccr_model.specs.Rules.{needs_no_admission}
 use Rattle.ccr_model.specs.Tasks.{is_over}
 use Rattle.ccr_model.proofs.Allowing.{OneName-legal}
-use Rattle.ccr_model.proofs.Alone.{over_stays, lasts_fired}
+use Rattle.ccr_model.proofs.ExclusiveRootsAreAlone.{over_stays, lasts_fired}
 use Rattle.ccr_model.proofs.Cutting.{cut_by}
 use Rattle.ccr_model.proofs.AllowedFirings.{firing_named-new, waits_outside}
 use Rattle.ccr_model.proofs.Stable.{firing_named-append}
@@ -30,7 +30,7 @@ use Rattle.ccr_base.proofs.Booleans.{same_number, eq-self, refuted, no_both}
 use Rattle.ccr_model.proofs.TasksLeft.{has_task-append}
 use Rattle.ccr_model.proofs.FiredTasks.{IsFired, fired_has, placement_stays}
 use Rattle.ccr_model.proofs.Members.{Among, Among-left, Among-right, Among-either}
-use Rattle.ccr_model.proofs.Pushes.{firings-push, fired-fire, put-push, cut-push, ever_admitted-push}
+use Rattle.ccr_model.proofs.OneMoreEvent.{firings-push, fired-fire, put-push, cut-push, ever_admitted-push}
 use Rattle.ccr_model.proofs.SameNames.{same_task-is, same_task-self}
 use Rattle.ccr_places.specs.declared.claims.StandingClaim.{StandingClaim}
 use Rattle.ccr_places.specs.declared.notes.ClaimNote.TheVariants.{Got}
@@ -45,7 +45,7 @@ use Rattle.ccr_claim.specs.Attempts.{Phase, booking, claiming, had_in, release, 
 use Rattle.ccr_actor.specs.Plans.{plan_of}
 use Rattle.ccr_actor.specs.Actors.{State, name_at, end_attempt, shorten, in_attempt, fire, give_up}
 use Rattle.ccr_runs.specs.Views.{queue_of}
-use Rattle.ccr_net.proofs.Parts.Invariant.{IsOwed, IsOwedOver, IsToPut, ActorMatches, put_in, puts_in, claim_for}
+use Rattle.ccr_net.proofs.Parts.PortsAndHandsMatch.{IsOwed, IsOwedOver, IsToPut, ActorMatches, put_in, puts_in, claim_for}
 use Rattle.ccr_net.proofs.Parts.EventsChangeDomains.{cut_fired, cuts_fired}
 use Rattle.ccr_net.proofs.Parts.StepsKeepPorts.{Changes, has_task-last}
 
@@ -206,8 +206,8 @@ ActorMatches-settled w h port a st x more is match = record {
     fewer le = let all = length-append {A = TaskId} (put_in x.ask) (puts_in more) in omega (arith, le, all)
 
 -- a dropped task is to be noted over
-pub ActorMatches-over : (w : Parts) (h : List Event) (port : ℕ → PortState) (a : ℕ) (st : State) (task : Task) (arbiters : List ℕ) → is_over h task.root ≡ true → ActorMatches w h port a st → ActorMatches w h port a (record st { hand = over_dropped task ∷ st.hand; arbiters = arbiters })
-ActorMatches-over w h port a st task arbiters over match = record {
+pub ActorMatches-over : (w : Parts) (h : List Event) (port : ℕ → PortState) (a : ℕ) (st : State) (task : Task) (domains : List ℕ) → is_over h task.root ≡ true → ActorMatches w h port a st → ActorMatches w h port a (record st { hand = over_dropped task ∷ st.hand; domains = domains })
+ActorMatches-over w h port a st task domains over match = record {
   fired_below = match.fired_below;
   claims_below = match.claims_below;
   claims_had = match.claims_had;

@@ -16,7 +16,7 @@ use Rattle.ccr_model.specs.Posts.{posts, taken, held, posted}
 use Rattle.ccr_model.specs.Firings.{fired}
 use Rattle.ccr_base.proofs.Booleans.{same_number, or_left, or_right}
 use Rattle.ccr_model.proofs.HeldSteps.{held-post, held-fire}
-use Rattle.ccr_model.proofs.Pushes.{fired-fire}
+use Rattle.ccr_model.proofs.OneMoreEvent.{fired-fire}
 use Rattle.ccr_model.proofs.PostNames.{times, AreNamed}
 use Rattle.ccr_model.proofs.SameNames.{same_task-self, same_message-self}
 use Rattle.ccr_model.proofs.MessageNames.{has_message-append}
@@ -27,7 +27,7 @@ use Rattle.ccr_places.specs.declared.notes.Note.TheVariants as notes
 use Rattle.ccr_places.specs.Ports.{PortState, first_fitting, without_first}
 use Rattle.ccr_places.specs.Ports as ports
 use Rattle.ccr_claim.specs.Plans.{names_of}
-use Rattle.ccr_net.proofs.Parts.Invariant.{unmarked_by, PortsMatch}
+use Rattle.ccr_net.proofs.Parts.PortsAndHandsMatch.{unmarked_by, PortsMatch}
 use Rattle.ccr_net.proofs.Parts.PostsKeepMarks.{has_name, has_name-append, enough-post, without_first-post, without_first-names, without_first-named}
 
 -- the port of this number takes the note, the others stay

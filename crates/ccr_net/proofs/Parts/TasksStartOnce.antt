@@ -11,7 +11,7 @@ use Rattle.ccr_model.specs.Firings.{started, started_by, ended, ended_by}
 use Rattle.ccr_model.specs.Tasks.{running, running_by, started_as}
 use Rattle.ccr_model.specs.Legal.{IsAllowed, IsLegal}
 use Rattle.ccr_base.proofs.Booleans.{same_number, no_both}
-use Rattle.ccr_model.proofs.Pushes.{started-push, ended-push}
+use Rattle.ccr_model.proofs.OneMoreEvent.{started-push, ended-push}
 use Rattle.ccr_model.proofs.PostNames.{along, refused_not}
 use Rattle.ccr_model.proofs.SameNames.{same_task-self}
 use Rattle.ccr_model.proofs.TasksLeft.{of_without}

@@ -21,7 +21,7 @@ use Rattle.ccr_model.specs.TaskData.{play_of}
 use Rattle.ccr_model.specs.Tasks.{running_by, started_as}
 use Rattle.ccr_base.proofs.Booleans.{same_number, eq-self}
 use Rattle.ccr_model.proofs.FiredTasks.{IsFired, IsFired-append}
-use Rattle.ccr_model.proofs.Pushes.{posts-push}
+use Rattle.ccr_model.proofs.OneMoreEvent.{posts-push}
 use Rattle.ccr_model.proofs.SameNames.{same_task-is, same_task-self}
 use Rattle.ccr_model.proofs.Stable.{firing_named-append, root_at-append, load_at-append}
 use Rattle.ccr_actor.specs.Actors.{Work, lines, round, taking, playing, posting, shedding, resting, play_in}

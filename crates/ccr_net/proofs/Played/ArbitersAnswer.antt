@@ -38,7 +38,7 @@ use Rattle.ccr_runs.specs.EntryRuns.{notes_at, reply_of, reply_to, same_place, w
 use Rattle.ccr_runs.specs.Views.{view}
 use Rattle.ccr_runs.specs.Visible.{visible}
 use Rattle.ccr_net.proofs.Played.BuiltTasksAreTold.{IsBuilt}
-use Rattle.ccr_net.proofs.Parts.NotesGiven.{Given, given_some}
+use Rattle.ccr_net.proofs.Parts.NotesAnswerAsks.{Given, given_some}
 use Rattle.ccr_net.proofs.Kept.WhatWiringsHave.{PlainFacts}
 use Rattle.ccr_net.proofs.Played.DomainsAnswer.{CommitTells}
 use Rattle.ccr_net.proofs.Played.ArbitersBeginAlike.{plain_object}

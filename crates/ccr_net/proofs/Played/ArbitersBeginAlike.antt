@@ -1,6 +1,6 @@
 -- The branches with which the object of an arbiter begins, and the object of a receive or a choice.
-use Rattle.std.proofs.Common.{◌≡◌, ◌⊎◌, inl, inr, ◌≤◌, ◌<◌, ℕ, zero, suc, ◌+◌, min, Bool, true, false, not, ◌&&◌, ◌||◌, List, [], ◌∷◌, ◌++◌, length, map, Some, None, refl, sym, arith, ap, ◌∙◌}
-use Rattle.std.specs.Prelude.{◌==◌, if◌then◌else◌, slice_get, filter_map, nat_le}
+use Rattle.std.proofs.Common.{◌≡◌, ◌⊎◌, inl, inr, ◌<◌, ℕ, zero, suc, ◌+◌, Bool, true, false, not, ◌&&◌, List, [], ◌∷◌, ◌++◌, length, map, Some, None, refl, sym, arith, ap, ◌∙◌}
+use Rattle.std.specs.Prelude.{◌==◌, if◌then◌else◌, slice_get, filter_map}
 use Rattle.std.specs.List.{cons_option, list_any}
 use Rattle.std.specs.Option.{option_map_or, option_and_then}
 use Rattle.std.proofs.lemmas.Bool.Decides.{nat_tests}
@@ -18,14 +18,14 @@ use Rattle.ccr_wiring.specs.declared.parts.Parts.{Parts}
 use Rattle.ccr_wiring.specs.Domains.{domain_of, least_with}
 use Rattle.ccr_wiring.specs.Groups.{has_strange_group, is_branchless, is_interleave, is_misgrouped, is_one_named, is_receive}
 use Rattle.ccr_wiring.specs.References.{domain_is_dangling, has_dangling_domain, no_interleave}
-use Rattle.ccr_wiring.specs.Repeats.{has_port}
 use Rattle.ccr_wiring.specs.Valid.{IsValid}
-use Rattle.ccr_wiring.specs.Wirings.{Placement, actions_of, awaited, in_domain, placement, placements, placements_from, sites_from, spots_from}
+use Rattle.ccr_wiring.specs.Wirings.{Placement, actions_of, awaited, in_domain, placement, placements, placements_from, sites_from, spots_from, kind_of}
 use Rattle.ccr_wiring.proofs.Lists.{neither, none_at}
 use Rattle.ccr_wiring.proofs.Validity.{no_codes}
 use Rattle.ccr_base.proofs.Booleans.{eq-self, same_number}
+use Rattle.ccr_base.specs.Lists.{has_number}
 use Rattle.ccr_object.specs.declared.object.Object.TheVariants.{Arbiter}
-use Rattle.ccr_object.specs.Starts.{fresh_arbiter, kind_of, member_at, member_of, members}
+use Rattle.ccr_object.specs.Starts.{fresh_arbiter, member_at, member_of, members}
 use Rattle.ccr_runs.specs.declared.entries.Entry.{Entry}
 use Rattle.ccr_runs.specs.Places.{arbiter_after, branches_before, first_branch}
 use Rattle.ccr_runs.specs.EntryRuns.{notes_at}
@@ -60,9 +60,9 @@ domain_or : (w : Parts) (ds : List DomainPart) (j : ℕ) → list_any (domain_is
 domain_or w [] j none = inl refl
 domain_or w (d ∷ ds) j none =
     let both = neither (domain_is_dangling w d) (list_any (domain_is_dangling w) ds) none in
-    by_test (has_port d.members j) refl (domain_or w ds j both.1)
+    by_test (has_number d.members j) refl (domain_or w ds j both.1)
   where
-    by_test : (t : Bool) → has_port d.members j ≡ t → (domain_of ds j ≡ j) ⊎ ((no_interleave w j ≡ false) × (no_interleave w (domain_of ds j) ≡ false))
+    by_test : (t : Bool) → has_number d.members j ≡ t → (domain_of ds j ≡ j) ⊎ ((no_interleave w j ≡ false) × (no_interleave w (domain_of ds j) ≡ false))
         → ((if t then least_with j d.members else domain_of ds j) ≡ j) ⊎ ((no_interleave w j ≡ false) × (no_interleave w (if t then least_with j d.members else domain_of ds j) ≡ false))
     by_test false apart rest = rest
     by_test true there rest =

@@ -14,7 +14,7 @@ use Rattle.ccr_base.specs.declared.names.TaskId.{TaskId}
 use Rattle.ccr_base.specs.declared.patterns.Pattern.{Pattern}
 use Rattle.ccr_base.specs.declared.tasks.Task.{Task}
 use Rattle.ccr_base.specs.Names.{same_message, same_spot, has_task}
-use Rattle.ccr_cause.specs.Causes.{union, with_cause, has_cause}
+use Rattle.ccr_cause.specs.Causes.{union, with_cause}
 use Rattle.ccr_handler.specs.declared.segments.PlayEnd.{PlayEnd}
 use Rattle.ccr_handler.specs.declared.segments.PlayEnd.TheVariants as plays
 use Rattle.ccr_wiring.specs.declared.parts.Parts.{Parts}
@@ -27,8 +27,9 @@ use Rattle.ccr_model.specs.Sites.{before, suspended, yields_at, yielded_at, root
 use Rattle.ccr_model.specs.TaskData.{load_at, messages_of, play_at}
 use Rattle.ccr_base.proofs.Booleans.{both, same_number}
 use Rattle.ccr_model.proofs.AllowedFirings.{before-new, firing_named-new}
-use Rattle.ccr_model.proofs.Members.{Among, Among-either, Among-take}
+use Rattle.ccr_model.proofs.Members.{Among, Among-either, Among-take, Among-kept}
 use Rattle.ccr_base.proofs.Options.{some_of, some_map}
+use Rattle.ccr_base.specs.Lists.{has_number}
 use Rattle.ccr_model.proofs.PostNames.{AreNamed, times}
 use Rattle.ccr_model.proofs.SameNames.{same_message-self}
 use Rattle.ccr_model.proofs.Stable.{load_at-append, root_at-append}
@@ -52,8 +53,7 @@ use Rattle.ccr_runs.specs.Visible.{visible, shown}
 use Rattle.ccr_net.proofs.Parts.StepsKeepActors.{unfired}
 use Rattle.ccr_net.proofs.Kept.WholeInvariant.{Holds, hand_settles, spots_drive}
 use Rattle.ccr_net.proofs.Parts.GotIsAChoice.{in_ports}
-use Rattle.ccr_net.proofs.Parts.Invariant.{ActorMatches, IsOwed, PortsMatch}
-use Rattle.ccr_net.proofs.Parts.NotesGiven.{filter_among}
+use Rattle.ccr_net.proofs.Parts.PortsAndHandsMatch.{ActorMatches, IsOwed, PortsMatch}
 use Rattle.ccr_net.proofs.Parts.GotNamesStandAlone.{held_had}
 use Rattle.ccr_net.proofs.Parts.PhasesFitPlans.{SpotFits}
 use Rattle.ccr_net.proofs.Played.ObjectsFollowNotes.{suspended_view}
@@ -103,39 +103,39 @@ got_posted w h port a st named match own fresh pattern m is =
     let found = ports_among (had_in st.phase) (ports_in pattern) m (subst (Among m) (in_ports pattern (had_in st.phase)) is) in
     let d = found.0 in
     let marked : Among m (first_fitting (length d.messages) d.slot.pred (port d.slot.port).items) = subst (Among m) (sym (own.had_marked d found.1)) found.2 in
-    let item : Among m (port d.slot.port).items = filter_among _ (port d.slot.port).items m (Among-take (length d.messages) _ m marked) in
+    let item : Among m (port d.slot.port).items = Among-kept _ (port d.slot.port).items m (Among-take (length d.messages) _ m marked) in
     let there : Among m (held h d.slot.port) = subst (Among m) (sym (held_had w h port a st named match own fresh d found.1)) item in
-    filter_among _ (posts h) m (filter_among _ _ m there)
+    Among-kept _ (posts h) m (Among-kept _ _ m there)
 
 -- ---- causes
 
-with_there : (xs : List ℕ) (c : ℕ) → has_cause xs c ≡ true → with_cause xs c ≡ xs
+with_there : (xs : List ℕ) (c : ℕ) → has_number xs c ≡ true → with_cause xs c ≡ xs
 with_there xs c is = rw is refl
 
-has_with : (xs : List ℕ) (c d : ℕ) → has_cause xs d ≡ true → has_cause (with_cause xs c) d ≡ true
-has_with xs c d is = by (has_cause xs c)
+has_with : (xs : List ℕ) (c d : ℕ) → has_number xs d ≡ true → has_number (with_cause xs c) d ≡ true
+has_with xs c d is = by (has_number xs c)
   where
-    by : (b : Bool) → has_cause (if b then xs else xs ++ c ∷ []) d ≡ true
+    by : (b : Bool) → has_number (if b then xs else xs ++ c ∷ []) d ≡ true
     by true = is
     by false = grind (arith, common_steps, is)
 
-has_own : (xs : List ℕ) (c : ℕ) → has_cause (with_cause xs c) c ≡ true
-has_own xs c = by (has_cause xs c) refl
+has_own : (xs : List ℕ) (c : ℕ) → has_number (with_cause xs c) c ≡ true
+has_own xs c = by (has_number xs c) refl
   where
-    by : (b : Bool) → has_cause xs c ≡ b → has_cause (if b then xs else xs ++ c ∷ []) c ≡ true
+    by : (b : Bool) → has_number xs c ≡ b → has_number (if b then xs else xs ++ c ∷ []) c ≡ true
     by true e = e
     by false e = grind (arith, common_steps)
 
-has_union : (ys xs : List ℕ) (c : ℕ) → has_cause xs c ≡ true → has_cause (union xs ys) c ≡ true
+has_union : (ys xs : List ℕ) (c : ℕ) → has_number xs c ≡ true → has_number (union xs ys) c ≡ true
 has_union [] xs c is = is
 has_union (y ∷ ys) xs c is = has_union ys (with_cause xs y) c (has_with xs y c is)
 
-has_second : (ys xs : List ℕ) (c : ℕ) → has_cause ys c ≡ true → has_cause (union xs ys) c ≡ true
+has_second : (ys xs : List ℕ) (c : ℕ) → has_number ys c ≡ true → has_number (union xs ys) c ≡ true
 has_second [] xs c is = absurd (cc)
 has_second (y ∷ ys) xs c is = by (y == c) refl is (has_second ys (with_cause xs y) c)
   where
-    by : (b : Bool) → (y == c) ≡ b → b || has_cause ys c ≡ true → (has_cause ys c ≡ true → has_cause (union (with_cause xs y) ys) c ≡ true) → has_cause (union (with_cause xs y) ys) c ≡ true
-    by true e there rest = has_union ys (with_cause xs y) c (subst (λ d. has_cause (with_cause xs y) d ≡ true) (same_number y c e) (has_own xs y))
+    by : (b : Bool) → (y == c) ≡ b → b || has_number ys c ≡ true → (has_number ys c ≡ true → has_number (union (with_cause xs y) ys) c ≡ true) → has_number (union (with_cause xs y) ys) c ≡ true
+    by true e there rest = has_union ys (with_cause xs y) c (subst (λ d. has_number (with_cause xs y) d ≡ true) (same_number y c e) (has_own xs y))
     by false e there rest = rest there
 
 union_last : (ys xs : List ℕ) (c : ℕ) → union xs (ys ++ c ∷ []) ≡ with_cause (union xs ys) c
@@ -143,9 +143,9 @@ union_last [] xs c = refl
 union_last (y ∷ ys) xs c = union_last ys (with_cause xs y) c
 
 union_with : (xs ys : List ℕ) (c : ℕ) → union xs (with_cause ys c) ≡ with_cause (union xs ys) c
-union_with xs ys c = by (has_cause ys c) refl
+union_with xs ys c = by (has_number ys c) refl
   where
-    by : (b : Bool) → has_cause ys c ≡ b → union xs (if b then ys else ys ++ c ∷ []) ≡ with_cause (union xs ys) c
+    by : (b : Bool) → has_number ys c ≡ b → union xs (if b then ys else ys ++ c ∷ []) ≡ with_cause (union xs ys) c
     by true e = sym (with_there (union xs ys) c (has_second ys xs c e))
     by false e = union_last ys xs c
 
@@ -303,9 +303,9 @@ module _ (w : Parts) (n : ℕ) (lacks : Lacks) (es : List Entry) (e : Entry) (ho
       by_phase spot fits (claiming [] had) phase same = record { spot = spot; fits = fits; had = had; phase = phase; asks_so = same }
 
       by : (tu : Turn) → turn before_it ≡ tu → ask_in w e.actor before_it tu ≡ Some asking → Commits place task ms
-      by (settle x more) turns same = absurd (owes x ((holds.actors e.actor).claims.owed x (subst (Among x) (sym (hand_settles before_it.is_short before_it.hand before_it.arbiters (spots_left before_it) x more turns)) (inl refl))) (ap (λ (y : Asked). y.ask) (inside same)))
+      by (settle x more) turns same = absurd (owes x ((holds.actors e.actor).claims.owed x (subst (Among x) (sym (hand_settles before_it.is_short before_it.hand before_it.domains (spots_left before_it) x more turns)) (inl refl))) (ap (λ (y : Asked). y.ask) (inside same)))
       by (admit i more) turns same = absurd (let asked = ap (λ (x : Asked). x.ask) (inside same) in cc)
-      by (drive spot more) turns same = by_phase spot (spots_so spot more (spots_drive before_it.is_short before_it.hand before_it.arbiters (spots_left before_it) spot more turns).1) before_it.phase refl (inside same)
+      by (drive spot more) turns same = by_phase spot (spots_so spot more (spots_drive before_it.is_short before_it.hand before_it.domains (spots_left before_it) spot more turns).1) before_it.phase refl (inside same)
       by go_on turns same = absurd (work_commits e.actor before_it.work place task ms same)
       by stop turns same = absurd (cc)
 

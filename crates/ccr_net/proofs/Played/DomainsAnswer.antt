@@ -37,7 +37,7 @@ use Rattle.ccr_runs.specs.Visible.{visible, event_of}
 use Rattle.ccr_net.proofs.Kept.WholeInvariant.{Holds}
 use Rattle.ccr_net.proofs.Played.BuiltTasksAreTold.{IsBuilt}
 use Rattle.ccr_net.proofs.Parts.DomainsMatch.{domain_at, domain_at-push}
-use Rattle.ccr_net.proofs.Parts.NotesGiven.{Given, given_some}
+use Rattle.ccr_net.proofs.Parts.NotesAnswerAsks.{Given, given_some}
 use Rattle.ccr_net.proofs.Kept.WhatWiringsHave.{PlainFacts}
 use Rattle.ccr_net.proofs.Played.OtherObjectsStay.{waiting_fired}
 use Rattle.ccr_net.proofs.Played.ObjectsFollowNotes.{AnswersAs, told_interleave}

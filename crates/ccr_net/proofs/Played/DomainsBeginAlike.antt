@@ -10,14 +10,14 @@ use Rattle.ccr_wiring.specs.declared.parts.ArbiterPart.{ArbiterPart}
 use Rattle.ccr_wiring.specs.declared.parts.Kind.{Kind}
 use Rattle.ccr_wiring.specs.declared.parts.Kind.TheVariants as kinds
 use Rattle.ccr_wiring.specs.declared.parts.Parts.{Parts}
-use Rattle.ccr_wiring.specs.Wirings.{Placement, placement, placements, spots_from, sites_from, awaited, actions_of}
+use Rattle.ccr_wiring.specs.Wirings.{Placement, placement, placements, spots_from, sites_from, awaited, actions_of, kind_of}
 use Rattle.ccr_model.specs.Interleaves.{is_placement_in}
 use Rattle.ccr_model.specs.Tasks.{is_interleave}
 use Rattle.ccr_base.proofs.Booleans.{same_number, and_false}
 use Rattle.ccr_base.proofs.Options.{some_of}
 use Rattle.ccr_places.specs.Interleaves as interleaves
 use Rattle.ccr_object.specs.declared.object.Object.TheVariants.{Interleave}
-use Rattle.ccr_object.specs.Starts.{start_at, fresh_arbiter, kind_of, member_at, member_of, members, branches_of, groups_of}
+use Rattle.ccr_object.specs.Starts.{start_at, fresh_arbiter, member_at, member_of, members, branches_of, groups_of}
 use Rattle.ccr_actor.specs.Plans.{is_interleave_number}
 use Rattle.ccr_runs.specs.declared.entries.Entry.{Entry}
 use Rattle.ccr_runs.specs.Places.{branches_from, groups_in}

@@ -16,14 +16,14 @@ use Rattle.ccr_runs.specs.declared.entries.Entry.{Entry}
 use Rattle.ccr_runs.specs.Places.{note_at_arbiter, note_of}
 use Rattle.ccr_runs.specs.EntryRuns.{Lacks, IsRunAfter, notes_at}
 use Rattle.ccr_net.proofs.Played.BuiltTasksAreTold.{commit_tells}
-use Rattle.ccr_net.proofs.Parts.NotesGiven.{Given}
+use Rattle.ccr_net.proofs.Parts.NotesAnswerAsks.{Given}
 use Rattle.ccr_net.proofs.Kept.ValidWiringsArePlain.{plain_facts}
 use Rattle.ccr_net.proofs.Played.NextAsksAreMet.{ask_facts}
 use Rattle.ccr_net.proofs.Played.ArbitersAnswer.{plain_answers}
 use Rattle.ccr_net.proofs.Played.DomainsAnswer.{CommitTells}
 use Rattle.ccr_net.proofs.Played.ObjectsFollowNotes.{AnswersAs}
 use Rattle.ccr_net.proofs.Played.PortsAnswer.{meter_answers, port_answers}
-use Rattle.ccr_net.proofs.Played.NextSteps.{StepFacts}
+use Rattle.ccr_net.proofs.Played.NextAsksAreAnswered.{StepFacts}
 use Rattle.ccr_net.proofs.Played.HoldersOfTasksAnswer.{keeps_tasks, run_answers, run_holds, run_stays}
 use Rattle.ccr_net.proofs.Parts.OneMoreEntry.{Step}
 

@@ -36,7 +36,7 @@ use Rattle.ccr_runs.specs.EntryRuns.{Lacks, state_of, notes_at, reply_of, reply_
 use Rattle.ccr_runs.specs.Views.{view, cut_view}
 use Rattle.ccr_runs.specs.Visible.{visible, event_of}
 use Rattle.ccr_net.proofs.Kept.WholeInvariant.{Holds, IsBegun, begins, hand_settles}
-use Rattle.ccr_net.proofs.Parts.Invariant.{IsOwed}
+use Rattle.ccr_net.proofs.Parts.PortsAndHandsMatch.{IsOwed}
 use Rattle.ccr_net.proofs.Played.ObjectsFollowNotes.{suspended_view}
 use Rattle.ccr_net.proofs.Played.BuiltTasksAreTold.{inside}
 use Rattle.ccr_net.proofs.Parts.OneMoreEntry.{IsNextState, Step, state_of-other, state_of-own, visible-push}
@@ -300,7 +300,7 @@ module _ (w : Parts) (h : List Event) (a : ℕ) (st : State) (seen : Seen w h st
   after_seen reply given = by (turn st) refl
     where
       by : (tu : Turn) → turn st ≡ tu → Seen w h (after_in w a st tu reply)
-      by (settle x more) turns = settled_seen more (λ y is. seen.hands y (subst (Among y) (sym (hand_settles st.is_short st.hand st.arbiters (spots_left st) x more turns)) (inr is))) reply
+      by (settle x more) turns = settled_seen more (λ y is. seen.hands y (subst (Among y) (sym (hand_settles st.is_short st.hand st.domains (spots_left st) x more turns)) (inr is))) reply
       by (admit i more) turns = admit_seen more reply given
       by (drive spot more) turns = drive_seen spot more reply given
       by go_on turns = work_seen st.work seen.plays reply
@@ -440,7 +440,7 @@ module _ (w : Parts) (n : ℕ) (lacks : Lacks) (es : List Entry) (e : Entry) (ho
     where
       by : (tu : Turn) → turn before ≡ tu → ask_in w e.actor before tu ≡ Some step.asking → PutTells w h step.asking.ask
       by (settle x more) turns is =
-          let among : Among x before.hand = subst (Among x) (sym (hand_settles before.is_short before.hand before.arbiters (spots_left before) x more turns)) (inl refl) in
+          let among : Among x before.hand = subst (Among x) (sym (hand_settles before.is_short before.hand before.domains (spots_left before) x more turns)) (inl refl) in
           subst (λ (y : Asked). PutTells w h y.ask) (inside is) (fired_too w h e.actor before.attempt x.place x.ask ((holds.actors e.actor).claims.owed x among) ((handed e.actor).hands x among))
       by (admit i more) turns is = subst (λ (y : Asked). PutTells w h y.ask) (inside is) tt
       by (drive spot more) turns is = subst (λ (y : Asked). PutTells w h y.ask) (inside is) (attempt_puts w h (plan_of w spot) (name_at e.actor before) before.phase)
@@ -491,7 +491,7 @@ module _ (w : Parts) (n : ℕ) (lacks : Lacks) (es : List Entry) (e : Entry) (ho
       works resting match known same = absurd (cc)
 
       by : (tu : Turn) → turn before ≡ tu → ask_so (ask_in w e.actor before tu) ≡ Some (asks.Suspend task) → Done
-      by (settle x more) turns same = owes x ((holds.actors e.actor).claims.owed x (subst (Among x) (sym (hand_settles before.is_short before.hand before.arbiters (spots_left before) x more turns)) (inl refl))) (inside same)
+      by (settle x more) turns same = owes x ((holds.actors e.actor).claims.owed x (subst (Among x) (sym (hand_settles before.is_short before.hand before.domains (spots_left before) x more turns)) (inl refl))) (inside same)
       by (admit i more) turns same = absurd (cc)
       by (drive spot more) turns same = attempts spot before.phase same
       by go_on turns same = works before.work (holds.actors e.actor).work (handed e.actor).plays same

@@ -15,7 +15,7 @@ use Rattle.ccr_runs.specs.EntryRuns.{Lacks, IsRunAfter, made_by, notes_at, same_
 use Rattle.ccr_net.proofs.Kept.WholeInvariant.{Holds}
 use Rattle.ccr_net.proofs.Played.BuiltTasksAreTold.{commit_tells, resume_tells}
 use Rattle.ccr_net.proofs.Played.HandedTasksAreTold.{Handed, Handed-begins, Handed-kept, put_tells, suspend_tells}
-use Rattle.ccr_net.proofs.Parts.NotesGiven.{Given}
+use Rattle.ccr_net.proofs.Parts.NotesAnswerAsks.{Given}
 use Rattle.ccr_net.proofs.Kept.WhatWiringsHave.{PlainFacts}
 use Rattle.ccr_net.proofs.Kept.ValidWiringsArePlain.{plain_facts}
 use Rattle.ccr_net.proofs.Played.DomainsAnswer.{CommitTells, domain_answers}

@@ -11,7 +11,7 @@ use Rattle.ccr_net.proofs.Conditions.AsksMeetConditions.{asks_met}
 use Rattle.ccr_net.proofs.Known.AsksAreKnown.{IsNamed}
 use Rattle.ccr_net.proofs.Known.PlacesAreKnown.{place_stands}
 use Rattle.ccr_net.proofs.Known.RunsAreKnown.{next_named}
-use Rattle.ccr_net.proofs.Played.NextSteps.{AskFacts, IsNextAsk}
+use Rattle.ccr_net.proofs.Played.NextAsksAreAnswered.{AskFacts, IsNextAsk}
 use Rattle.ccr_net.proofs.Played.PlayedRunsAreRuns.{some_of}
 
 module _ (w : Parts) (workers : ℕ) (lacks : Lacks) (valid : IsValid w) (few : workers ≤ 16) where

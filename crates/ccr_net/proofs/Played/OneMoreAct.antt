@@ -1,7 +1,7 @@
 -- What one more act leaves.
-use Rattle.std.proofs.Common.{◌≡◌, ◌≢◌, ◌<◌, ◌≤◌, ℕ, zero, suc, ◌+◌, max, Bool, true, false, List, [], ◌∷◌, ◌++◌, map, length, length-append, get_or, drop, Result, Ok, Err, IfOk, OnOk, OnErr, refl, sym, arith, ap, ◌∙◌, subst}
+use Rattle.std.proofs.Common.{◌≡◌, ◌≢◌, ◌<◌, ◌≤◌, ℕ, zero, suc, max, Bool, true, false, List, [], ◌∷◌, ◌++◌, map, length, length-append, get_or, Result, Ok, Err, IfOk, OnOk, refl, sym, arith, ap, ◌∙◌, subst}
 use Rattle.std.specs.Prelude.{◌==◌, cond, slice_get, slice_index, slice_set}
-use Rattle.std.specs.Option.{option_map, option_map_or}
+use Rattle.std.specs.Option.{option_map_or}
 use Rattle.std.proofs.lemmas.List.{get_or-set_same, get_or-set_other, length-map, map-append}
 use Rattle.std.proofs.Math.ListN.{length-set}
 use Rattle.std.specs.declared.snapshot.Snapshot.{Snapshot}
@@ -27,17 +27,9 @@ pub on_ok : {X E : Type 0} {P Q : Type 0} (r : Result X E) → (P → Q) → IfO
 on_ok (Ok x) f p = f p
 on_ok (Err e) f p = tt
 
-pub ok_ok : {X E : Type 0} {P Q : Type 0} (r : Result X E) → (P → Q) → OnOk r P → OnOk r Q
-ok_ok (Ok x) f p = f p
-ok_ok (Err e) f p = tt
-
 pub ok_both : {X E : Type 0} {P Q R : Type 0} (r : Result X E) → (P → Q → R) → OnOk r P → OnOk r Q → OnOk r R
 ok_both (Ok x) f p q = f p q
 ok_both (Err e) f p q = tt
-
-pub on_err : {X E : Type 0} {P Q : Type 0} (r : Result X E) → (P → Q) → OnErr r P → OnErr r Q
-on_err (Ok x) f p = tt
-on_err (Err e) f p = f p
 
 pub deed_given : (x : Placed) (ask : Ask) (r : Result (PlaceAnswer × Deed) OutOfMemory) → IfOk r (λ (given : PlaceAnswer × Deed). given.1.note ≡ note_of x ask) → IfOk r (λ (given : PlaceAnswer × Deed). given.1.ask.value ≡ ask) → IfOk r (λ (given : PlaceAnswer × Deed). given.1 ≡ deed_at x ask)
 deed_given x ask (Ok given) note asks = λ j. record { note = note j; ask = record { marker = record {}; value = asks j } }

@@ -22,7 +22,8 @@ use Rattle.ccr_places.specs.declared.notes.Note.TheVariants as notes
 use Rattle.ccr_places.specs.Interleaves as interleaves
 use Rattle.ccr_places.specs.Interleaves.{InterleaveState, Waiting, group_at}
 use Rattle.ccr_object.specs.declared.object.Object.TheVariants.{Queue, Interleave, Site}
-use Rattle.ccr_object.specs.Starts.{start_at, fresh_arbiter, kind_of, members, branches_of, groups_of}
+use Rattle.ccr_wiring.specs.Wirings.{kind_of}
+use Rattle.ccr_object.specs.Starts.{start_at, fresh_arbiter, members, branches_of, groups_of}
 use Rattle.ccr_runs.specs.declared.entries.Entry.{Entry}
 use Rattle.ccr_runs.specs.EntryRuns.{Lacks, notes_at, same_place}
 use Rattle.ccr_runs.specs.Visible.{visible, event_of}

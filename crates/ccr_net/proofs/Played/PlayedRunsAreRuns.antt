@@ -22,7 +22,8 @@ use Rattle.ccr_object.specs.declared.object.Placed.{Placed}
 use Rattle.ccr_object.specs.Numbers.{numbers_of, is_known}
 use Rattle.ccr_object.specs.Objects.{answer, after, answer_at, after_at, after_deed, answered, noted, nothing}
 use Rattle.ccr_object.specs.Objects as objects
-use Rattle.ccr_object.specs.Starts.{start_at, placed_at, fresh_arbiter, kind_of, members}
+use Rattle.ccr_wiring.specs.Wirings.{kind_of}
+use Rattle.ccr_object.specs.Starts.{start_at, placed_at, fresh_arbiter, members}
 use Rattle.ccr_object.proofs.Numbering.{known_from}
 use Rattle.ccr_runs.specs.declared.acts.Act.{Act}
 use Rattle.ccr_runs.specs.Runs.{Cast, IsGiven, IsRunFrom, cast, state_after, taught}
@@ -33,7 +34,7 @@ use Rattle.ccr_runs.specs.Played.{protocol, scene, next_of, numbered, number_at,
 use Rattle.ccr_runs.specs.EntryRuns.{Lacks, IsRunAfter, entry_for, last_stamp, made_by, next_stamp, notes_at, replies_of, reply_for, reply_of, same_place}
 use Rattle.ccr_net.proofs.Played.ObjectsFollowNotes.{AnswersAs, object_of, told_object}
 use Rattle.ccr_net.proofs.Played.PlacesByNumber.{Stands, stands, place_at-stands, number_test, same_place-is}
-use Rattle.ccr_net.proofs.Played.NextSteps.{IsNextAsk, StepFacts}
+use Rattle.ccr_net.proofs.Played.NextAsksAreAnswered.{IsNextAsk, StepFacts}
 use Rattle.ccr_net.proofs.Parts.OneMoreEntry.{Step, replies_of-push}
 
 -- ---- one more entry

@@ -15,11 +15,11 @@ use Rattle.ccr_places.specs.declared.notes.Note.{Note}
 use Rattle.ccr_claim.specs.declared.asks.Ask.{Ask}
 use Rattle.ccr_claim.specs.declared.asks.Asked.{Asked}
 use Rattle.ccr_claim.specs.declared.asks.Reply.{Reply}
-use Rattle.ccr_actor.specs.Actors.{State, after, state_after, turn}
+use Rattle.ccr_actor.specs.Actors.{State, after, state_after}
 use Rattle.ccr_actor.specs.Actors as actors
-use Rattle.ccr_actor.specs.Acting.{Acting, Asking, quiet, settling, going, answered, at_state, is_at_rest, kept, next, rests_by, sent, shortened, started, IsAfter}
-use Rattle.ccr_actor.proofs.Followed.{state_more, step_is, no-ask as resting}
-use Rattle.ccr_actor.proofs.Kept.{after_short, kept_after, kept_asked, kept_short}
+use Rattle.ccr_actor.specs.Acting.{Acting, quiet, answered, at_state, is_at_rest, kept, next, rests_by, sent, shortened, started, IsAfter}
+use Rattle.ccr_actor.proofs.ActorsFollowTheirSteps.{state_more, step_is, no-ask as resting}
+use Rattle.ccr_actor.proofs.WhatCountsIsKept.{after_short, kept_after, kept_asked, kept_short}
 use Rattle.ccr_object.specs.declared.deed.PlaceAnswer.TheVariants.{Replied}
 use Rattle.ccr_object.specs.declared.deed.Deed.{Deed}
 use Rattle.ccr_object.specs.declared.object.Placed.{Placed}
@@ -35,7 +35,7 @@ use Rattle.ccr_net.specs.Schedules.{AreStarted, IsActing, IsAnswered, IsMet, IsP
 use Rattle.ccr_net.proofs.Played.OneMoreAct.{differs}
 use Rattle.ccr_net.proofs.Played.EachPlaceAnswers.{step_facts}
 use Rattle.ccr_net.proofs.Played.PlayedRunsAreRuns.{Adds, Matches, Matches-begins, act_adds}
-use Rattle.ccr_net.proofs.Played.NextSteps.{StepFacts}
+use Rattle.ccr_net.proofs.Played.NextAsksAreAnswered.{StepFacts}
 
 -- ---- one more act of a run
 

@@ -30,7 +30,7 @@ use Rattle.ccr_runs.specs.Places.{port_note, meter_note, port_after}
 use Rattle.ccr_runs.specs.EntryRuns.{notes_at, port_at, reply_of, reply_to, same_place, claim_reply}
 use Rattle.ccr_runs.specs.Visible.{visible}
 use Rattle.ccr_net.proofs.Kept.WholeInvariant.{meter_at, meter_at-push}
-use Rattle.ccr_net.proofs.Parts.NotesGiven.{Given, given_some}
+use Rattle.ccr_net.proofs.Parts.NotesAnswerAsks.{Given, given_some}
 use Rattle.ccr_net.proofs.Played.ObjectsFollowNotes.{AnswersAs}
 use Rattle.ccr_net.proofs.Parts.OneMoreEntry.{port_at-push}
 

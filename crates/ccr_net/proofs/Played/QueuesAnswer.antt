@@ -10,6 +10,7 @@ use Rattle.ccr_wiring.specs.declared.parts.Parts.{Parts}
 use Rattle.ccr_model.specs.declared.history.Event.{Event}
 use Rattle.ccr_model.specs.Tasks.{queued}
 use Rattle.ccr_base.proofs.Booleans.{eq-self}
+use Rattle.ccr_base.proofs.Options.{map_map}
 use Rattle.ccr_model.proofs.FiredTasks.{IsFired}
 use Rattle.ccr_model.proofs.Members.{Among}
 use Rattle.ccr_model.proofs.TaskPlaces.{ArePlaced-legal, QueuedFacts-queued}
@@ -30,12 +31,12 @@ use Rattle.ccr_runs.specs.EntryRuns.{Lacks, notes_at, reply_to, same_place}
 use Rattle.ccr_runs.specs.Views.{view}
 use Rattle.ccr_runs.specs.Visible.{visible, event_of}
 use Rattle.ccr_net.proofs.Kept.WholeInvariant.{Holds}
-use Rattle.ccr_net.proofs.Parts.NotesGiven.{Given, given_some}
+use Rattle.ccr_net.proofs.Parts.NotesAnswerAsks.{Given, given_some}
 use Rattle.ccr_net.proofs.Played.HandedTasksAreTold.{PutTells}
 use Rattle.ccr_net.proofs.Played.ObjectsFollowNotes.{AnswersAs, told_queue}
 use Rattle.ccr_net.proofs.Parts.OneMoreEntry.{queue_at, queue_at-push, visible-push}
 use Rattle.ccr_net.proofs.Parts.QueuesMatch.{task_queued}
-use Rattle.ccr_net.proofs.Played.ToldTasksStay.{map_behind, map_drop, map_first, map_named, named_has, views-stay}
+use Rattle.ccr_net.proofs.Played.ToldTasksStay.{map_behind, map_drop, map_first, named_has, views-stay}
 use Rattle.ccr_net.proofs.Parts.WorkMatches.{view-stays}
 
 -- who is queued has fired
@@ -85,7 +86,7 @@ module _ (w : Parts) (n : ℕ) (lacks : Lacks) (es : List Entry) (e : Entry) (ho
   stays_with new same = λ j. Queue (record { state = new; tasks = (sym queued_stay ∙ ap (whole_queued w later) (sym same)) j })
 
   first_so : option_map (view w later) (queues.take_note state) ≡ slice_get told.tasks 0
-  first_so = map_named (view w later) (λ (x : Queued). x.task) (slice_get state.queued 0) ∙ sym (map_first (λ (x : Queued). view w later x.task) state.queued) ∙ ap (λ ts. slice_get ts 0) queued_stay
+  first_so = map_map (view w later) (λ (x : Queued). x.task) (slice_get state.queued 0) ∙ sym (map_first (λ (x : Queued). view w later x.task) state.queued) ∙ ap (λ ts. slice_get ts 0) queued_stay
 
   dropped_so : option_map (view w later) (queues.put_note state) ≡ objects.dropped told
   dropped_so = by (nat_le 1 (queues.drop_count state))

@@ -36,7 +36,7 @@ use Rattle.ccr_runs.specs.Views.{view}
 use Rattle.ccr_runs.specs.Visible.{visible, event_of}
 use Rattle.ccr_net.proofs.Kept.WholeInvariant.{Holds}
 use Rattle.ccr_net.proofs.Played.BuiltTasksAreTold.{IsResuming}
-use Rattle.ccr_net.proofs.Parts.NotesGiven.{Given, given_some}
+use Rattle.ccr_net.proofs.Parts.NotesAnswerAsks.{Given, given_some}
 use Rattle.ccr_net.proofs.Played.OtherObjectsStay.{site_fired}
 use Rattle.ccr_net.proofs.Played.ObjectsFollowNotes.{AnswersAs, suspended_view, told_site}
 use Rattle.ccr_net.proofs.Parts.OneMoreEntry.{visible-push}

@@ -1,9 +1,8 @@
 -- What a history tells of tasks that fired stays, and so do the lists of whole tasks that objects keep.
-use Rattle.std.proofs.Common.{◌≡◌, ℕ, zero, suc, true, List, [], ◌∷◌, ◌++◌, length, map, Option, Some, None, inl, inr, refl, sym, ap, ◌∙◌}
+use Rattle.std.proofs.Common.{◌≡◌, ℕ, zero, suc, true, List, [], ◌∷◌, ◌++◌, length, map, inl, inr, refl, sym, ap, ◌∙◌}
 use Rattle.std.specs.Prelude.{slice_get, drop}
 use Rattle.std.specs.Option.{option_map}
 use Rattle.ccr_base.specs.declared.names.TaskId.{TaskId}
-use Rattle.ccr_base.specs.declared.tasks.Task.{Task}
 use Rattle.ccr_base.specs.declared.names.Spot.{Spot}
 use Rattle.ccr_base.specs.Names.{same_task, same_spot, has_task}
 use Rattle.ccr_wiring.specs.declared.parts.Parts.{Parts}
@@ -19,7 +18,7 @@ use Rattle.ccr_model.proofs.FiredTasks.{IsFired}
 use Rattle.ccr_model.proofs.Members.{Among}
 use Rattle.ccr_model.proofs.SameNames.{same_task-self}
 use Rattle.ccr_model.proofs.Stable.{play_of-append}
-use Rattle.ccr_runs.specs.Views.{view, cut_view}
+use Rattle.ccr_runs.specs.Views.{view}
 use Rattle.ccr_net.proofs.Parts.WorkMatches.{view-stays}
 use Rattle.ccr_net.proofs.Played.ObjectsFollowNotes.{suspended_view}
 pub use Rattle.std.proofs.lemmas.List.{map-append as map_behind}
@@ -42,10 +41,6 @@ map_drop f (suc n) (x ∷ xs) = map_drop f n xs
 pub map_first : {X Y : Type 0} (f : X → Y) (xs : List X) → slice_get (map f xs) 0 ≡ option_map f (slice_get xs 0)
 map_first f [] = refl
 map_first f (x ∷ xs) = refl
-
-pub map_named : {X Y Z : Type 0} (f : Y → Z) (g : X → Y) (o : Option X) → option_map f (option_map g o) ≡ option_map (λ x. f (g x)) o
-map_named f g None = refl
-map_named f g (Some x) = refl
 
 -- a member's name is among the names
 pub named_has : {X : Type 0} (name : X → TaskId) (xs : List X) (x : X) → Among x xs → has_task (map name xs) (name x) ≡ true

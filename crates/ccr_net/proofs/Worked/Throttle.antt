@@ -18,7 +18,7 @@ use Rattle.ccr_runs.specs.declared.entries.Entry.{Entry}
 use Rattle.ccr_runs.specs.Visible.{visible}
 use Rattle.ccr_runs.specs.EntryRuns.{made_by, never, IsRun}
 use Rattle.ccr_net.proofs.Kept.RunsAreLegal.{visible_legal}
-use Rattle.ccr_net.proofs.Worked.RunWords.{in-none, in-more, in-less, len-none, len-more, len-less, task, message, sent, one_of, queue, arbiter, handler_part, poster_part, parts, entry}
+use Rattle.ccr_net.proofs.Worked.WiringsInShort.{in-none, in-more, in-less, len-none, len-more, len-less, task, message, sent, one_of, queue, arbiter, handler_part, poster_part, parts, entry}
 
 ruleset sets = (in-none, in-more, in-less, len-none, len-more, len-less)
 

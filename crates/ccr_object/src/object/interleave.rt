@@ -1,11 +1,10 @@
 //! An Interleave answers.
 
-ghost use Rattle.std.specs.Prelude.{◌≡◌, ◌≤◌, ◌++◌, [], length, map, IfOk, OnErr, vec_capacity, IsOk, true};
+ghost use Rattle.std.specs.Prelude.{◌≡◌, ◌≤◌, [], length, IfOk, OnErr, vec_capacity, IsOk, true};
 ghost use Rattle.ccr_claim.specs.Asks.{is_settling};
 ghost use Rattle.ccr_object.specs.Interleaves.{answer, after};
 ghost use Rattle.ccr_object.specs.Commits.{commit_reply, cuts_of, noted};
 ghost use Rattle.ccr_places.specs.Commits.{cut_tasks};
-ghost use Rattle.std.specs.Option.{option_map};
 
 use ccr_base::{Commit, Cut, How, List, MsgId, OutOfMemory, Spot, Task, TaskId};
 use ccr_claim::{Ask, Reply};

@@ -66,7 +66,7 @@ fn post(
     }
 }
 
-#[tactic(auto, using(crate::proofs::Due::slot_due))]
+#[tactic(auto, using(crate::proofs::RepliesFitAsks::slot_due))]
 #[inline(always)]
 fn claim(
     port: &mut PortObject,

@@ -15,7 +15,7 @@ use ccr_turns::{Held, Seat};
 use std::alloc::Global;
 
 /// What a lock kept: its object, and of its history the entries that have a place in memory.
-pub type Left = (PlaceObject, List<Held<Deed>>);
+pub type PlaceAndHistory = (PlaceObject, List<Held<Deed>>);
 
 /// The entries of all places, the history that they show, and the actors whose passes are stopped.
 #[derive(Drop)]
@@ -57,7 +57,7 @@ impl<'w> Space<'w> {
         self,
         alloc: Global,
         seats: List<Seat<PlaceObject>>,
-    ) -> Result<List<Left>, OutOfMemory>
+    ) -> Result<List<PlaceAndHistory>, OutOfMemory>
         requires space { HasPlaces self }
         requires seats { All (λ seat. IsSeatOf self.turns seat) seats }
         requires all { length seats ≡ actor_count self }

@@ -6,6 +6,7 @@ ghost use Rattle.ccr_base.specs.declared.names.TaskId.{TaskId};
 ghost use Rattle.ccr_claim.specs.Asks.{is_settling};
 ghost use Rattle.ccr_claim.specs.declared.asks.Reply.TheVariants as replies;
 ghost use Rattle.ccr_object.specs.declared.deed.PlaceAnswer.TheVariants as answers;
+ghost use Rattle.ccr_space.specs.Pauses.{most_yields};
 
 use ccr_claim::{Ask, Reply, settles};
 use ccr_object::PlaceAnswer;
@@ -118,7 +119,7 @@ impl Pausing {
 /// How many yields a wait has, after so many in a row before it: twice as many each time, and 64 at most.
 fn yields_after(waits: u32) -> u32
     ensures least { 1 ≤ result }
-    ensures most { result ≤ 64 }
+    ensures most { result ≤ most_yields }
 {
     match waits {
         0 => 1,

@@ -15,14 +15,14 @@ use std::alloc::Global;
 
 /// The history that the closed locks show, and the actors whose passes are stopped.
 #[derive(Drop)]
-pub struct Seen {
+pub struct Shown {
     pub history: History,
     pub short: List<ActorNo>,
 }
 
 impl<'w> Space<'w> {
     /// Closes the locks as `close` does, and makes the history alone. What the locks keep in memory is enough for it.
-    pub fn show(self, alloc: Global, passes: List<Pass<'w>>) -> Result<Seen, OutOfMemory>
+    pub fn show(self, alloc: Global, passes: List<Pass<'w>>) -> Result<Shown, OutOfMemory>
         requires space { HasPlaces self }
         requires passes { All (λ pass. IsPassOf self pass) passes }
         requires all { length passes ≡ actor_count self }
@@ -36,7 +36,7 @@ impl<'w> Space<'w> {
         let kept = self.unlock(alloc, List::from_vec(seats))?;
         let entries = Deal::of(alloc, kept)?;
         let history = history_of(alloc, entries)?;
-        Ok(Seen { history, short })
+        Ok(Shown { history, short })
     }
 }
 

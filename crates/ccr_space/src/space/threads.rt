@@ -1,13 +1,14 @@
 //! All passes side by side.
 
-ghost use Rattle.std.specs.Prelude.{◌≡◌, ◌+◌, ◌≤◌, length, All, IfOk};
+ghost use Rattle.std.specs.Prelude.{◌≡◌, ◌≤◌, length, All, IfOk};
 ghost use Rattle.ccr_base.specs.Bounds.{most_workers};
+ghost use Rattle.ccr_wiring.specs.Actors.{actor_count};
 ghost use Rattle.ccr_runs.specs.Visible.{visible as shown};
 ghost use Rattle.ccr_turns.specs.Locks.{keep_of};
 ghost use Rattle.ccr_space.specs.Spaces.{HasPlaces, IsAtRest, IsPassOf};
 ghost use Rattle.ccr_space.specs.Closes.{IsBroughtToRest, IsDone, IsRested, IsShownAtRest};
 
-use super::{Closed, Pass, Seen, Space};
+use super::{Closed, Pass, Shown, Space};
 use ccr_base::{Gate, List, OutOfMemory};
 use ccr_turns::Keep;
 use ccr_wiring::Wiring;
@@ -24,10 +25,10 @@ pub fn shown_threads<R: Threads + Wait + Sync, G: Gate + Sync>(
     wiring: &Wiring,
     workers: u32,
     gate: &G,
-) -> Result<Seen, OutOfMemory>
+) -> Result<Shown, OutOfMemory>
     requires workers { workers ≤ most_workers }
-    requires actors { 1 ≤ length wiring.now.posters + workers }
-    ensures { IfOk result (λ seen. IsShownAtRest wiring.now (length wiring.now.posters + workers) seen.history seen.short) }
+    requires actors { 1 ≤ actor_count wiring.now workers }
+    ensures { IfOk result (λ seen. IsShownAtRest wiring.now (actor_count wiring.now workers) seen.history seen.short) }
 {
     let (space, passes) = rested_space(rt, alloc, wiring, workers, gate, Keep::Seen)?;
     let seen = space.show(alloc, passes)?;
@@ -43,9 +44,9 @@ pub fn closed_threads<R: Threads + Wait + Sync, G: Gate + Sync>(
     gate: &G,
 ) -> Result<Closed, OutOfMemory>
     requires workers { workers ≤ most_workers }
-    requires actors { 1 ≤ length wiring.now.posters + workers }
-    ensures threads { IfOk result (λ closed. IsBroughtToRest wiring.now (length wiring.now.posters + workers) closed.full.entries closed.short) }
-    ensures done { IfOk result (λ closed. IsDone wiring.now (length wiring.now.posters + workers) closed.full.entries closed.short) }
+    requires actors { 1 ≤ actor_count wiring.now workers }
+    ensures threads { IfOk result (λ closed. IsBroughtToRest wiring.now (actor_count wiring.now workers) closed.full.entries closed.short) }
+    ensures done { IfOk result (λ closed. IsDone wiring.now (actor_count wiring.now workers) closed.full.entries closed.short) }
     ensures history { IfOk result (λ closed. closed.history ≡ shown closed.full.entries) }
 {
     let (space, passes) = rested_space(rt, alloc, wiring, workers, gate, Keep::Every)?;
@@ -63,8 +64,8 @@ fn rested_space<'w, R: Threads + Wait + Sync, G: Gate + Sync>(
     keep: Keep,
 ) -> Result<(Space<'w>, List<Pass<'w>>), OutOfMemory>
     requires workers { workers ≤ most_workers }
-    requires actors { 1 ≤ length wiring.now.posters + workers }
-    ensures rested { IfOk result (λ made. IsRested wiring.now (length wiring.now.posters + workers) made.0 made.1) }
+    requires actors { 1 ≤ actor_count wiring.now workers }
+    ensures rested { IfOk result (λ made. IsRested wiring.now (actor_count wiring.now workers) made.0 made.1) }
     ensures keep { IfOk result (λ made. keep_of made.0.turns ≡ keep) }
 {
     let (space, passes) = Space::make_with(alloc, wiring, workers, keep)?;

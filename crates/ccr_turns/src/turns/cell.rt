@@ -1,8 +1,8 @@
 //! One act on what a lock keeps, which is out of the table meanwhile.
 
-ghost use Rattle.std.specs.Prelude.{◌≡◌, ◌+◌, ◌++◌, ◌∷◌, [], ◌^◌, ◌<◌, ◌≤◌, max, vec_len, vec_capacity, IfOk, OnErr};
+ghost use Rattle.std.specs.Prelude.{◌≡◌, ◌+◌, ◌++◌, ◌∷◌, [], ◌<◌, ◌≤◌, max, vec_len, vec_capacity, IfOk, OnErr};
 ghost use Rattle.ccr_turns.specs.Lists.{last_of};
-ghost use Rattle.ccr_turns.specs.Histories.{history_stamps, keeps, sifted, past, IsSifted};
+ghost use Rattle.ccr_turns.specs.Histories.{history_stamps, keeps, sifted, stamp_limit, past, IsSifted};
 ghost use Rattle.ccr_turns.specs.Seated.{Acted};
 
 use crate::history::{Cell, Held};
@@ -43,8 +43,8 @@ pub(crate) fn play<O: Kept>(
     last: u128,
     ask: O::Ask,
 ) -> Result<(O::Reply, u128), OutOfMemory>
-    requires seat { last < 2 ^ 100 }
-    requires place { last_of 0 (history_stamps (past cell.old)) < 2 ^ 100 }
+    requires seat { last < stamp_limit }
+    requires place { last_of 0 (history_stamps (past cell.old)) < stamp_limit }
     requires sifted { IsSifted O.seen cell.old }
     ensures acted { IfOk result (λ r. (r.1 ≡ max (last_of 0 (history_stamps (past cell.old))) last + 1) × Acted O.value O.after O.may number r.1 ask r.0 cell.old cell.new) }
     ensures history { OnErr result (past cell.new ≡ past cell.old) }

@@ -11,15 +11,19 @@ ghost use Rattle.ccr_turns.specs.Locks.{starts, seat_count, place_count, keep_of
 use super::{Seat, Turns};
 use crate::history::{Cell, Held};
 use crate::kept::{Keep, Kept};
-use crate::rule::Slot;
+use crate::rule::CellSlot;
 use atomic_table::Closed;
 use ccr_base::List;
 use std::alloc::Global;
 
-type Left<O> = (O, List<Held<<O as Kept>::Note>>);
+/// An object, and the entries that are kept of the history of its lock.
+type ObjectAndHistory<O> = (O, List<Held<<O as Kept>::Note>>);
 
 // Lifts out what each slot has, in the room that was taken for it.
-fn lift<O: Kept>(mut closed: Closed<Slot<O>, Global>, mut kept: Vec<Left<O>>) -> Vec<Left<O>>
+fn lift<O: Kept>(
+    mut closed: Closed<CellSlot<O>, Global>,
+    mut kept: Vec<ObjectAndHistory<O>>,
+) -> Vec<ObjectAndHistory<O>>
     requires full { IsFull closed.slots }
     requires cells { HasCells (slots_items closed.slots) }
     requires room { (kept.items ≡ []) × (slots_len closed.slots ≤ vec_capacity kept) }
@@ -53,7 +57,7 @@ impl<O: Kept> Turns<O> {
         self,
         alloc: Global,
         seats: List<Seat<O>>,
-    ) -> Result<List<Left<O>>, (Turns<O>, List<Seat<O>>)>
+    ) -> Result<List<ObjectAndHistory<O>>, (Turns<O>, List<Seat<O>>)>
         requires seats { All (λ seat. IsSeatOf self seat) seats }
         requires all { length seats ≡ seat_count self }
 
@@ -74,7 +78,7 @@ impl<O: Kept> Turns<O> {
     }
 
     // The closed table, once all logs are one seat's.
-    fn settle(self, mut seats: Vec<Seat<O>>) -> Closed<Slot<O>, Global>
+    fn settle(self, mut seats: Vec<Seat<O>>) -> Closed<CellSlot<O>, Global>
         requires seats { All (λ seat. IsSeatOf self seat) seats.items }
         requires all { length seats.items ≡ seat_count self }
         ensures full { IsFull result.slots × (slots_len result.slots ≡ place_count self) }

@@ -11,7 +11,7 @@ ghost use Rattle.ccr_turns.specs.Locks.{starts, seat_count, place_count, keep_of
 use super::{Seat, Token, Turns};
 use crate::history::Cell;
 use crate::kept::{Keep, Kept};
-use crate::rule::{Plan, Slot};
+use crate::rule::{CellSlot, Plan};
 use crate::trace::Trace;
 use atomic_table::{Refused, Table};
 use ccr_base::{List, OutOfMemory};
@@ -30,7 +30,11 @@ fn zeros(alloc: Global, count: usize) -> Result<Vec<u64>, AllocError>
 }
 
 // Each object with an empty history.
-fn cells<O: Kept>(alloc: Global, objects: Vec<O>, keep: Keep) -> Result<Vec<Slot<O>>, AllocError>
+fn cells<O: Kept>(
+    alloc: Global,
+    objects: Vec<O>,
+    keep: Keep,
+) -> Result<Vec<CellSlot<O>>, AllocError>
     ensures { IfOk result (λ v. AllZip (IsLaid keep) objects.items v.items) }
 {
     let mut slots = Vec::with_capacity(alloc, objects.len())?;

@@ -2,7 +2,7 @@
 
 ghost use Rattle.std.specs.Prelude.{◌≡◌, ◌<◌};
 ghost use Rattle.ccr_turns.specs.Histories.{past, IsSifted};
-ghost use Rattle.ccr_turns.specs.Seated.{HasTurn, Idle, Entry, Entered};
+ghost use Rattle.ccr_turns.specs.Seated.{HasTurn, Idle, HasNewEntry, Entered};
 
 use super::cell::entry_count;
 use super::win::{AWAITED, FREE};
@@ -29,7 +29,7 @@ impl<O: Kept> Turns<O> {
     // Lays back what was lifted out, with one entry more, and lets the lock go.
     pub(super) fn enter(&self, token: &mut Token<O>, place: usize, cell: Cell<O, O::Note>)
         requires tied { (token.old.table_id ≡ self.now.table.shared.table_id) × (place < self.now.table.shared.table_id.slots) }
-        requires entry { Entry O.value O.after O.may O.seen place token.old.me cell }
+        requires entry { HasNewEntry O.value O.after O.may O.seen place token.old.me cell }
         ensures tied { token.new.table_id ≡ token.old.table_id }
         ensures entered { Entered place token.old.me cell token.new.me }
     {

@@ -18,10 +18,12 @@ use Rattle.ccr_wiretext.specs.Names.{Naming}
 use Rattle.ccr_wiretext.specs.Drafts.{Declared, branch_count, receiver, with_receive}
 use Rattle.ccr_wiretext.specs.Spelling.{branch_words, arbiter_lines}
 use Rattle.ccr_wiretext.specs.Values.{IsPatternValued, IsArbiterValued}
-use Rattle.ccr_wiretext.proofs.Each.{Each, both}
+use Rattle.ccr_wiretext.proofs.Each.{both}
+use Rattle.ccr_base.specs.Lists.{Each}
 use Rattle.ccr_wiretext.proofs.Fit.{Shaped, ArbiterFit}
 use Rattle.ccr_wiretext.proofs.SpotCounts.{Uncrowded}
-use Rattle.ccr_wiretext.proofs.Round.Leads.{outside, Leads, leads_to, leads_from, walk, room_before, room_for, each_at, all_at, each_all}
+use Rattle.ccr_wiretext.proofs.Round.Leads.{outside, Leads, leads_to, leads_from, walk, room_before, room_for, each_at, all_at}
+use Rattle.ccr_base.proofs.Lists.{each_all}
 use Rattle.ccr_wiretext.proofs.Round.Namings.{Good, names_of, names_append, good_front, is_new}
 use Rattle.ccr_wiretext.proofs.Round.Terms.{Again}
 use Rattle.ccr_wiretext.proofs.Round.Shapes.{KnowsAll}

@@ -13,7 +13,7 @@ use Rattle.ccr_wiring.specs.declared.parts.DomainPart.{DomainPart}
 use Rattle.ccr_wiring.specs.declared.parts.Kind.{Kind}
 use Rattle.ccr_wiring.specs.declared.parts.Kind.TheVariants as arbiters
 use Rattle.ccr_wiring.specs.Groups.{is_interleave}
-use Rattle.ccr_wiring.specs.Repeats.{has_port, are_apart, members_in_all}
+use Rattle.ccr_wiring.specs.Repeats.{members_in_all}
 use Rattle.ccr_wiretext.specs.declared.keyword.Keyword.TheVariants as keywords
 use Rattle.ccr_wiretext.specs.declared.named.Named.TheVariants as kinds
 use Rattle.ccr_wiretext.specs.Keywords.{keyword}
@@ -22,7 +22,8 @@ use Rattle.ccr_wiretext.specs.Drafts.{Declared, with_domain}
 use Rattle.ccr_wiretext.specs.Patterns.{is_combined}
 use Rattle.ccr_wiretext.specs.Grammar.{AreInterleaves}
 use Rattle.ccr_wiretext.specs.Spelling.{arbiter_name, combine_words}
-use Rattle.ccr_wiretext.proofs.Each.{Each, both}
+use Rattle.ccr_wiretext.proofs.Each.{both}
+use Rattle.ccr_base.specs.Lists.{Each, has_number, are_apart}
 use Rattle.ccr_wiretext.proofs.Fit.{InterleaveFit, DomainFit}
 use Rattle.ccr_wiretext.proofs.Round.Leads.{outside, IsStep, Leads, walk_lines, room_before, each_at}
 use Rattle.ccr_wiretext.proofs.Round.Namings.{Good, IsKnown, names_of, any_parts, named_at, is_new}
@@ -79,7 +80,7 @@ interleaves_known parts front good n fit =
 
 -- ---- lists of Interleaves
 
-all_free : (domains : List DomainPart) (n : ℕ) → has_port (members_in_all domains) n ≡ false → is_combined domains n ≡ false
+all_free : (domains : List DomainPart) (n : ℕ) → has_number (members_in_all domains) n ≡ false → is_combined domains n ≡ false
 all_free [] n none = refl
 all_free (domain ∷ domains) n none =
     let parts = any_parts (λ other. other == n) domain.members (members_in_all domains) none in
@@ -125,8 +126,8 @@ domain_step whole parts names spotted part knows fit there apart room = record {
 apart_front : (xs ys : List ℕ) → are_apart (xs ++ ys) ≡ true → are_apart xs ≡ true
 apart_front [] ys apart = refl
 apart_front (x ∷ xs) ys apart =
-    let parts = both (not (has_port (xs ++ ys) x)) (are_apart (xs ++ ys)) apart in
-    let none = any_parts (λ other. other == x) xs ys (not_true (has_port (xs ++ ys) x) parts.0) in
+    let parts = both (not (has_number (xs ++ ys) x)) (are_apart (xs ++ ys)) apart in
+    let none = any_parts (λ other. other == x) xs ys (not_true (has_number (xs ++ ys) x) parts.0) in
     rw (none.0, apart_front xs ys parts.1) refl
 
 -- the members up to the next domain, and its own, are apart

@@ -27,7 +27,7 @@ use Rattle.ccr_wiretext.specs.Blocks.{group_of}
 use Rattle.ccr_wiretext.specs.Grammar.{IsNew, IsGroup}
 use Rattle.ccr_wiretext.specs.Spelling.{group_words, branch_words, end_words, block_lines}
 use Rattle.ccr_wiretext.specs.Values.{IsPatternValued, IsArbiterValued}
-use Rattle.ccr_wiretext.proofs.Each.{Each}
+use Rattle.ccr_base.specs.Lists.{Each}
 use Rattle.ccr_wiretext.proofs.Fit.{BranchFit, ArbiterFit}
 use Rattle.ccr_wiretext.proofs.SpotCounts.{Uncrowded}
 use Rattle.ccr_wiring.proofs.Crowds.{times_append}

@@ -14,7 +14,7 @@ use Rattle.ccr_wiretext.specs.Drafts.{Declared, with_handler, with_action, end_h
 use Rattle.ccr_wiretext.specs.Grammar.{IsNew}
 use Rattle.ccr_wiretext.specs.Spelling.{port_name, cause_name, expr_words, action_words, end_words, handler_lines}
 use Rattle.ccr_wiretext.specs.Values.{IsActionValued, IsHandlerValued}
-use Rattle.ccr_wiretext.proofs.Each.{Each}
+use Rattle.ccr_base.specs.Lists.{Each}
 use Rattle.ccr_wiretext.proofs.Fit.{ActionFit, HandlerFit}
 use Rattle.ccr_wiretext.proofs.Round.Leads.{inside, outside, IsStep, Leads, leads_on, leads_to, leads_from, walk, walk_lines, room_before, each_at, all_at}
 use Rattle.std.specs.List.{All}

@@ -5,13 +5,13 @@ use Rattle.std.specs.List.{list_any}
 use Rattle.std.proofs.lemmas.Bool.Decides.{nat_tests}
 use Rattle.ccr_base.proofs.Booleans.{not_true}
 use Rattle.ccr_base.proofs.Options.{get-some}
+use Rattle.ccr_base.specs.Lists.{has_number, are_apart}
 use Rattle.ccr_text.specs.Spelling.{AreWords}
 use Rattle.ccr_wiring.specs.declared.parts.Parts.{Parts}
 use Rattle.ccr_wiring.specs.declared.parts.QueuePart.{QueuePart}
 use Rattle.ccr_wiring.specs.declared.parts.SetPart.{SetPart}
 use Rattle.ccr_wiring.specs.declared.parts.CausePart.{CausePart}
 use Rattle.ccr_wiring.specs.declared.parts.HandlerPart.{HandlerPart}
-use Rattle.ccr_wiring.specs.Repeats.{has_port, are_apart}
 use Rattle.ccr_wiretext.specs.declared.named.Named.TheVariants as kinds
 use Rattle.ccr_wiretext.specs.Names.{Naming, as_port, as_queue, as_cause, as_handler}
 use Rattle.ccr_wiretext.specs.Drafts.{Declared}
@@ -99,11 +99,11 @@ behind_none f [] x ys e = (neither (f x) (list_any f ys) e).0
 behind_none f (y ∷ xs) x ys e = behind_none f xs x ys (neither (f y) (list_any f (xs ++ x ∷ ys)) e).1
 
 -- a number of numbers that are apart is none of those before it
-pub not_before : (found : List ℕ) (x : ℕ) (xs : List ℕ) → are_apart (found ++ x ∷ xs) ≡ true → has_port found x ≡ false
+pub not_before : (found : List ℕ) (x : ℕ) (xs : List ℕ) → are_apart (found ++ x ∷ xs) ≡ true → has_number found x ≡ false
 not_before [] x xs apart = refl
 not_before (y ∷ found) x xs apart =
-    let parts = both (not (has_port (found ++ x ∷ xs) y)) (are_apart (found ++ x ∷ xs)) apart in
-    let other = behind_none (λ other. other == y) found x xs (not_true (has_port (found ++ x ∷ xs) y) parts.0) in
+    let parts = both (not (has_number (found ++ x ∷ xs) y)) (are_apart (found ++ x ∷ xs)) apart in
+    let other = behind_none (λ other. other == y) found x xs (not_true (has_number (found ++ x ∷ xs) y) parts.0) in
     let turned : (y == x) ≡ false = grind (arith, nat_tests, other) in
     rw (turned, not_before found x xs parts.1) refl
 

@@ -1,5 +1,5 @@
 -- Lines, given by their words, that lead from what is declared to what is declared behind them.
-use Rattle.std.proofs.Common.{◌≡◌, ℕ, suc, ◌+◌, ◌<◌, ◌≤◌, true, false, List, [], ◌∷◌, ◌++◌, length, map, get_or, inr, refl, sym, ap, subst, ◌∙◌, arith, append_assoc, append-nil, length-append}
+use Rattle.std.proofs.Common.{◌≡◌, ℕ, ◌+◌, ◌<◌, ◌≤◌, true, false, List, [], ◌∷◌, ◌++◌, length, map, get_or, inr, refl, sym, ap, subst, ◌∙◌, arith, append_assoc, append-nil, length-append}
 use Rattle.std.specs.Prelude.{sum, flat_map}
 use Rattle.std.specs.List.{All}
 use Rattle.std.proofs.lemmas.List.{map-append, get_or_at}
@@ -15,7 +15,7 @@ use Rattle.ccr_wiretext.specs.Keywords.{keyword}
 use Rattle.ccr_wiretext.specs.Names.{Naming}
 use Rattle.ccr_wiretext.specs.Drafts.{Declared}
 use Rattle.ccr_wiretext.specs.Lines.{Says, AreLines}
-use Rattle.ccr_wiretext.proofs.Each.{Each}
+use Rattle.ccr_base.specs.Lists.{Each}
 
 -- what is declared behind the budget line, in an open block or in none
 abbrev pub inside : Parts → Naming → List ℕ → Block → Declared
@@ -106,10 +106,6 @@ all_at {X} P done x rest all e every =
     let less = room_before (length all) done x rest all e (omega arith) in
     let same : get_or all (length done) x ≡ x = ap (λ xs. get_or xs (length done) x) (sym e) ∙ get_or_at done x rest x (length done) refl in
     subst P same (every (length done) x less)
-
-pub each_all : {X : Type 0} (P : X → Type 0) (xs : List X) → All P xs → Each P xs
-each_all P [] every = tt
-each_all P (x ∷ xs) every = (every 0 x (omega arith), each_all P xs (λ k d less. every (suc k) d (omega arith)))
 
 -- ---- what such lines are
 

@@ -17,7 +17,7 @@ use Rattle.ccr_wiretext.specs.Grammar.{IsNew}
 use Rattle.ccr_wiretext.specs.Spelling.{port_name, cause_name, post_words, end_words, poster_lines}
 use Rattle.ccr_text.specs.Exact.{value_word}
 use Rattle.ccr_wiretext.specs.Values.{IsValue, IsPosterValued}
-use Rattle.ccr_wiretext.proofs.Each.{Each}
+use Rattle.ccr_base.specs.Lists.{Each}
 use Rattle.ccr_wiretext.proofs.Fit.{PostFit, PosterFit}
 use Rattle.ccr_wiretext.proofs.Round.Leads.{inside, outside, IsStep, Leads, leads_on, leads_to, leads_from, walk, walk_lines, room_before, room_for, each_at, all_at}
 use Rattle.ccr_wiretext.proofs.Round.Namings.{Good, entries, names_of, next_names, next_new}

@@ -10,8 +10,9 @@ use Rattle.ccr_text.specs.Spelling.{AreWords}
 use Rattle.ccr_text.specs.Fields.{Words}
 use Rattle.ccr_wiring.specs.declared.parts.Parts.{Parts}
 use Rattle.ccr_wiring.specs.declared.parts.BranchPart.{BranchPart}
-use Rattle.ccr_wiring.specs.Repeats.{are_apart, slot_ports}
+use Rattle.ccr_wiring.specs.Repeats.{slot_ports}
 use Rattle.ccr_wiring.specs.Spots.{branch_named, times}
+use Rattle.ccr_wiring.proofs.Lists.{any_none}
 use Rattle.ccr_wiretext.specs.Names.{Naming}
 use Rattle.ccr_wiretext.specs.Drafts.{Declared}
 use Rattle.ccr_wiretext.specs.Forms.{crowds}
@@ -19,11 +20,11 @@ use Rattle.ccr_wiretext.specs.Grammar.{IsSlot, IsSlots, IsPattern}
 use Rattle.ccr_wiretext.specs.Lines.{IsBranchTail}
 use Rattle.ccr_wiretext.specs.Spelling.{port_name, queue_name, handler_name, pred_words, slot_words, pattern_words}
 use Rattle.ccr_wiretext.specs.Values.{IsPredValued, IsPatternValued}
-use Rattle.ccr_wiretext.proofs.Each.{Each, none_passes}
+use Rattle.ccr_base.specs.Lists.{Each, are_apart}
 use Rattle.ccr_wiretext.proofs.Fit.{SlotFit, PatternFit, BranchFit}
 use Rattle.ccr_wiretext.proofs.SpotCounts.{Uncrowded}
 use Rattle.ccr_wiretext.proofs.LinesFit.{same_ports}
-use Rattle.ccr_wiretext.proofs.Round.Leads.{each_all}
+use Rattle.ccr_base.proofs.Lists.{each_all}
 use Rattle.ccr_wiretext.proofs.Round.Terms.{Again, word_more, words_on, name_word, number_word, within_says, pred_says, pred_clean}
 use Rattle.ccr_wiretext.proofs.Round.Known.{KnowsPorts, KnowsQueues, KnowsHandlers, port_says, port_word, not_before}
 
@@ -108,7 +109,7 @@ pub record KnowsAll (whole : Parts) (names : Naming) : Type 0 where
 crowds_none : (draft : Declared) (branch : BranchPart) → Uncrowded (draft.spotted ++ branch_named draft.parts branch) → crowds draft branch ≡ false
 unfolding crowds
 crowds_none draft branch fine =
-    none_passes (λ port. nat_lt 16 (times port (draft.spotted ++ branch_named draft.parts branch))) (λ port. below (times port (draft.spotted ++ branch_named draft.parts branch)) (fine port)) (branch_named draft.parts branch)
+    any_none (λ port. nat_lt 16 (times port (draft.spotted ++ branch_named draft.parts branch))) (branch_named draft.parts branch) (λ port. below (times port (draft.spotted ++ branch_named draft.parts branch)) (fine port))
   where
     below : (n : ℕ) → n ≤ 16 → nat_lt 16 n ≡ false
     below n less = grind (arith, nat_tests, less)

@@ -12,7 +12,7 @@ use Rattle.ccr_wiretext.specs.Names.{Naming}
 use Rattle.ccr_wiretext.specs.Drafts.{with_queue, with_port, with_set, with_cause}
 use Rattle.ccr_wiretext.specs.Grammar.{IsNew}
 use Rattle.ccr_wiretext.specs.Spelling.{port_name, policy_words, queue_words, port_words, set_words, cause_words}
-use Rattle.ccr_wiretext.proofs.Each.{Each}
+use Rattle.ccr_base.specs.Lists.{Each}
 use Rattle.ccr_wiretext.proofs.Fit.{PolicyFit, SetFit}
 use Rattle.ccr_wiretext.proofs.Round.Leads.{outside, IsStep, step_to, Leads, leads_from, walk_lines, room_before, each_at}
 use Rattle.ccr_wiretext.proofs.Round.Namings.{Good, names_of, next_names, next_new}

@@ -11,6 +11,7 @@ use Rattle.ccr_base.specs.declared.handlers.Expr.TheVariants as exprs
 use Rattle.ccr_base.specs.declared.patterns.Pred.{Pred}
 use Rattle.ccr_base.specs.declared.patterns.Pred.TheVariants as preds
 use Rattle.ccr_base.proofs.Booleans.{not_true}
+use Rattle.ccr_base.proofs.Lists.{all_weaker}
 use Rattle.ccr_text.specs.Words.{is_graphic, value_after, is_digits, number_of, may_be_in_name, is_name_of}
 use Rattle.ccr_text.specs.Spelling.{AreWords}
 use Rattle.ccr_text.specs.Fields.{Words}
@@ -20,9 +21,10 @@ use Rattle.ccr_wiretext.specs.Values.{IsNumeral, IsValue, IsExprValued, IsPredVa
 use Rattle.ccr_wiretext.specs.Grammar.{IsPlain, IsNumber, IsWithin, IsPolicy, AreNumbers, IsOne, IsValueWord, IsExpr, IsPred}
 use Rattle.ccr_wiretext.specs.Spelling.{policy_words, expr_words, pred_words}
 use Rattle.ccr_text.specs.Exact.{value_word}
-use Rattle.ccr_wiretext.proofs.Each.{Each, both}
+use Rattle.ccr_wiretext.proofs.Each.{both}
+use Rattle.ccr_base.specs.Lists.{Each}
 use Rattle.ccr_wiretext.proofs.Fit.{PolicyFit, OldFit, ExprFit}
-use Rattle.ccr_wiretext.proofs.Round.Leads.{each_all}
+use Rattle.ccr_base.proofs.Lists.{each_all}
 
 -- the digits of a number read as that number
 abbrev pub Again : Type 0
@@ -39,10 +41,6 @@ word_more word words is are = (is.0, is.1, are)
 pub words_on : (xs ys : Words) → AreWords xs → AreWords ys → AreWords (xs ++ ys)
 words_on [] ys first second = second
 words_on (word ∷ xs) ys first second = (first.0, first.1, words_on xs ys first.2 second)
-
-all_more : (f g : ℕ → Bool) → ((b : ℕ) → f b ≡ true → g b ≡ true) → (bytes : List ℕ) → list_all f bytes ≡ true → list_all g bytes ≡ true
-all_more f g more [] e = refl
-all_more f g more (b ∷ bytes) e = let parts = both (f b) (list_all f bytes) e in rw (more b parts.0, all_more f g more bytes parts.1) refl
 
 all_none : (f g : ℕ → Bool) → ((b : ℕ) → f b ≡ true → g b ≡ false) → (bytes : List ℕ) → list_all f bytes ≡ true → list_any g bytes ≡ false
 all_none f g none [] e = refl
@@ -70,7 +68,7 @@ pub name_word : (name : List ℕ) → is_name_of name ≡ true → IsWord name
 name_word [] e = absurd cc
 name_word (first ∷ others) e =
     let parts = named_parts first others e in
-    (grind (arith, nat_tests), rw (letter_mark first parts.0, all_more may_be_in_name is_graphic name_mark others parts.1) refl)
+    (grind (arith, nat_tests), rw (letter_mark first parts.0, all_weaker may_be_in_name is_graphic name_mark others parts.1) refl)
 
 pub name_plain : (name : List ℕ) → is_name_of name ≡ true → IsPlain name
 name_plain [] e = absurd cc
@@ -85,7 +83,7 @@ digits_word digits n e = by (is_digits digits && nat_lt (value_after 0 digits) (
     by true is h =
         let parts = both (is_digits digits) (nat_lt (value_after 0 digits) (2 ^ 64)) is in
         let digit = both (not (length digits == 0)) (list_all is_ascii_digit digits) parts.0 in
-        (not_true (length digits == 0) digit.0, all_more is_ascii_digit is_graphic digit_mark digits digit.1)
+        (not_true (length digits == 0) digit.0, all_weaker is_ascii_digit is_graphic digit_mark digits digit.1)
     by false is h = absurd cc
 
 pub number_word : Again → (n : ℕ) → n < 2 ^ 64 → IsWord (decimal n)

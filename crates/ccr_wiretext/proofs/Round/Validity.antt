@@ -27,14 +27,16 @@ use Rattle.ccr_wiring.specs.declared.parts.Kind.{Kind}
 use Rattle.ccr_wiring.specs.Groups.{may_have, is_receive, is_one_named, is_misgrouped, has_strange_group, has_misgrouped, is_branchless, has_branchless}
 use Rattle.ccr_wiring.specs.Names.{has_repeated_name, has_malformed_name}
 use Rattle.ccr_wiring.specs.References.{is_beyond, has_beyond, action_is_dangling, pattern_is_dangling, branch_is_dangling, post_is_dangling, set_is_dangling, handler_is_dangling, arbiter_is_dangling, poster_is_dangling, no_interleave, domain_is_dangling, has_dangling}
-use Rattle.ccr_wiring.specs.Repeats.{are_apart, names_ports_once, branch_repeats, arbiter_repeats, set_repeats, post_repeats, poster_repeats, has_repeat}
+use Rattle.ccr_wiring.specs.Repeats.{names_ports_once, branch_repeats, arbiter_repeats, set_repeats, post_repeats, poster_repeats, has_repeat}
 use Rattle.ccr_wiring.specs.Limits.{is_outside, policy_is_outside, expr_is_outside, action_is_outside, slot_is_outside, pattern_is_outside, branch_is_outside, set_is_outside, handler_is_outside, arbiter_is_outside, domain_is_outside, has_outside}
 use Rattle.ccr_wiring.specs.Versions.{has_strange_version, is_long, expr_is_newer, action_is_newer, handler_is_newer, poster_is_newer, has_newer}
 use Rattle.ccr_wiring.specs.Spots.{has_crowded_port}
 use Rattle.ccr_wiring.specs.Codes.{code_of}
 use Rattle.ccr_wiring.specs.Valid.{IsValid}
 use Rattle.ccr_wiring.proofs.Soundness.{below}
-use Rattle.ccr_wiretext.proofs.Each.{Each, neither, none_passes}
+use Rattle.ccr_wiretext.proofs.Each.{neither}
+use Rattle.ccr_base.specs.Lists.{Each, are_apart}
+use Rattle.ccr_wiring.proofs.Lists.{any_none}
 use Rattle.ccr_wiretext.proofs.Fit.{PolicyFit, OldFit, ExprFit, PortsFit, ActionFit, SlotFit, PatternFit, BranchFit, BranchesFit, ArbiterFit, Shaped, SetFit, HandlerFit, PostFit, PosterFit, InterleaveFit, DomainFit}
 
 -- ---- tests that fail
@@ -72,7 +74,7 @@ old_each {X} version newer xs old = by (not (version == 2)) old
   where
     by : (t : Bool) → (t && list_any newer xs) ≡ false → list_any (λ (x : X). t && newer x) xs ≡ false
     by true e = e
-    by false e = none_passes (λ (x : X). false) (λ x. refl) xs
+    by false e = any_none (λ (x : X). false) xs (λ x. refl)
 
 expr_fits : (version : ℕ) (value : Expr) → expr_is_outside value ≡ false → OldFit version (expr_is_newer value) → ExprFit version value
 expr_fits version (exprs.Number value) e old = old

@@ -29,9 +29,9 @@ returns-in-Some-clause-counted c =
     let few = of-all w.posters c.args.number c.in-Some.poster.now (subst (λ posters. slice_get posters c.args.number ≡ Some c.in-Some.poster.now) are there) in
     let limit : posts_in_all w.posters ≤ 10000 = (sound w c.parts.ensures.valid).small.posts in
     let posts = ap length c.as_slice-in-Some.ensures in
-    let place = ap (λ (l : LinesLeft). l.place) c.of.ensures in
+    let index = ap (λ (l : LinesLeft). l.index) c.of.ensures in
     let left = ap (λ (l : LinesLeft). length l.left) c.of.ensures in
-    omega (arith, few, limit, posts, place, left)
+    omega (arith, few, limit, posts, index, left)
 
 pub returns-in-None-clause-work : goal.returns-in-None-clause-work
 returns-in-None-clause-work c =

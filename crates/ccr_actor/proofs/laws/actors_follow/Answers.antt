@@ -1,4 +1,4 @@
-use Rattle.ccr_actor.proofs.Followed.{follows_started, follows_proper, follows_reply, follows_refusal, follows_long, follows_rest, follows_settling}
+use Rattle.ccr_actor.proofs.ActorsFollowTheirSteps.{follows_started, follows_proper, follows_reply, follows_refusal, follows_long, follows_rest, follows_settling}
 use Rattle.ccr_actor.proofs.laws.actors_follow.Goals as goal
 
 pub returns-clause-start : goal.returns-clause-start

@@ -1,4 +1,4 @@
-use Rattle.ccr_actor.proofs.Settled.{all_settle, short_settles}
+use Rattle.ccr_actor.proofs.HandsSettle.{all_settle, short_settles}
 use Rattle.ccr_actor.proofs.laws.actors_settle.Goals as goal
 
 pub returns-clause-hand : goal.returns-clause-hand

@@ -1,6 +1,6 @@
-use Rattle.std.proofs.Common.{◌≡◌, ◌∙◌, ◌++◌, ◌∷◌, [], ap, sym, arith}
+use Rattle.std.proofs.Common.{◌∙◌, ◌++◌, ◌∷◌, [], ap, sym, arith}
 use Rattle.ccr_checker.specs.Judges.{Judged}
-use Rattle.ccr_check.proofs.Accepted.{accepted_none, accepted_more, refused_here}
+use Rattle.ccr_check.proofs.EachEventWasAccepted.{accepted_none, accepted_more, refused_here}
 use Rattle.ccr_check.proofs.judging.first_refusal.Goals as goal
 
 pub loop-at-init : goal.loop-at-init

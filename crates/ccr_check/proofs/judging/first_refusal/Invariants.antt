@@ -1,4 +1,4 @@
-use Rattle.ccr_check.proofs.Accepted.{HasAccepted}
+use Rattle.ccr_check.proofs.EachEventWasAccepted.{HasAccepted}
 use Rattle.ccr_check.proofs.judging.first_refusal.Given as goal
 
 abbrev pub invariant-loop-at : goal.invariant-loop-at

@@ -1,6 +1,6 @@
 use Rattle.ccr_claim.specs.Attempts.{attempt_after}
 use Rattle.ccr_claim.specs.Settling.{steps}
-use Rattle.ccr_claim.proofs.Settled.{stands, gave_up, fired}
+use Rattle.ccr_claim.proofs.HandsAreOwed.{stands, gave_up, fired}
 use Rattle.ccr_claim.proofs.laws.attempts_settle.Goals as goal
 
 pub returns-clause-gave_up : goal.returns-clause-gave_up

@@ -1,6 +1,6 @@
 use Rattle.ccr_claim.specs.Attempts.{attempt_after}
 use Rattle.ccr_claim.specs.Settling.{steps}
-use Rattle.ccr_claim.proofs.Settled.{stands, stops}
+use Rattle.ccr_claim.proofs.HandsAreOwed.{stands, stops}
 use Rattle.ccr_claim.proofs.laws.attempts_stop.Goals as goal
 
 pub returns : goal.returns

@@ -1,7 +1,7 @@
 use Rattle.std.proofs.Common.{◌∙◌, sym, subst, arith}
 use Rattle.ccr_telling.specs.declared.judging.Judgement.{Judgement}
 use Rattle.ccr_telling.specs.Judging.{IsJudged}
-use Rattle.ccr_commands.proofs.Judged.{illegal_is_found, legal_is_output, refused_line_within, told_within}
+use Rattle.ccr_commands.proofs.FoundOnce.{illegal_is_found, legal_is_output, refused_line_within, told_within}
 use Rattle.ccr_commands.proofs.judging.finding_of_text.Goals as goal
 
 pub overflow_add-result-in-Illegal : goal.overflow_add-result-in-Illegal

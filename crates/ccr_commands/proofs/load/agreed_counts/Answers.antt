@@ -1,7 +1,7 @@
 use Rattle.std.proofs.Common.{subst}
 use Rattle.ccr_wiring.specs.declared.parts.Parts.{Parts}
 use Rattle.ccr_steady.specs.Agreement.{Agrees}
-use Rattle.ccr_commands.proofs.Due.{if_ok}
+use Rattle.ccr_commands.proofs.GivenIsDue.{if_ok}
 use Rattle.ccr_commands.proofs.load.agreed_counts.Goals as goal
 
 pub returns-clause-counts : goal.returns-clause-counts

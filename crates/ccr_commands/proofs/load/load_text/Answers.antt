@@ -5,8 +5,8 @@ use Rattle.ccr_model.specs.declared.history.Totals.{Totals}
 use Rattle.ccr_model.specs.Legal.{IsLegal, is_complete}
 use Rattle.ccr_model.specs.Order.{IsFinished}
 use Rattle.ccr_commands.specs.Loads.{IsLoadOf, totals_of}
-use Rattle.ccr_commands.proofs.Due.{if_ok}
-use Rattle.ccr_commands.proofs.Told.{told_totals}
+use Rattle.ccr_commands.proofs.GivenIsDue.{if_ok}
+use Rattle.ccr_commands.proofs.TotalsAreTold.{told_totals}
 use Rattle.ccr_commands.proofs.load.load_text.Goals as goal
 
 pub returns : goal.returns

@@ -1,4 +1,4 @@
-use Rattle.ccr_commands.proofs.Due.{if_ok, replay_is_due}
+use Rattle.ccr_commands.proofs.GivenIsDue.{if_ok, replay_is_due}
 use Rattle.ccr_commands.proofs.replaying.answer_replay.Goals as goal
 
 pub returns-in-Ok : goal.returns-in-Ok

@@ -1,4 +1,4 @@
-use Rattle.ccr_commands.proofs.Due.{if_ok, steps_is_due}
+use Rattle.ccr_commands.proofs.GivenIsDue.{if_ok, steps_is_due}
 use Rattle.ccr_commands.proofs.replaying.answer_steps.Goals as goal
 
 pub returns-in-Ok : goal.returns-in-Ok

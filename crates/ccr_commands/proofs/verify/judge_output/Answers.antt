@@ -1,4 +1,4 @@
-use Rattle.ccr_commands.proofs.Judged.{finding_is_due}
+use Rattle.ccr_commands.proofs.FoundOnce.{finding_is_due}
 use Rattle.ccr_commands.proofs.verify.judge_output.Goals as goal
 
 pub returns : goal.returns

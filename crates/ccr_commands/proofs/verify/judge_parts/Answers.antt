@@ -1,4 +1,4 @@
-use Rattle.ccr_commands.proofs.Due.{if_ok, found_is_given}
+use Rattle.ccr_commands.proofs.GivenIsDue.{if_ok, found_is_given}
 use Rattle.ccr_commands.proofs.verify.judge_parts.Goals as goal
 
 pub returns-in-Ok : goal.returns-in-Ok

@@ -1,4 +1,4 @@
-use Rattle.ccr_dispatch.proofs.Lowered.{less_left, settled_less}
+use Rattle.ccr_dispatch.proofs.StepsLeaveLess.{less_left, settled_less}
 use Rattle.ccr_dispatch.proofs.laws.actors_rest.Goals as goal
 
 pub returns-clause-hand : goal.returns-clause-hand

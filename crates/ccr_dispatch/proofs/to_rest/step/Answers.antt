@@ -4,9 +4,9 @@ use Rattle.ccr_claim.specs.Asks.{may_come}
 use Rattle.ccr_actor.specs.Acting.{Acting, due_in, sent, IsAfter}
 use Rattle.ccr_actor.specs.Nets.{IsProper}
 use Rattle.ccr_actor.specs.Following.{Follows}
-use Rattle.ccr_actor.proofs.Followed.{follows_proper}
-use Rattle.ccr_dispatch.proofs.Lowered.{in_hand, less_left, settled_less}
-use Rattle.ccr_dispatch.proofs.Stepped.{actor_is, may_answer, stepped}
+use Rattle.ccr_actor.proofs.ActorsFollowTheirSteps.{follows_proper}
+use Rattle.ccr_dispatch.proofs.StepsLeaveLess.{in_hand, less_left, settled_less}
+use Rattle.ccr_dispatch.proofs.StepsOverNets.{actor_is, may_answer, stepped}
 use Rattle.ccr_dispatch.proofs.to_rest.step.Goals as goal
 
 pub act-answer-requires : goal.act-answer-requires

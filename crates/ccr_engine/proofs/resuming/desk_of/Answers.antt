@@ -1,6 +1,6 @@
 use Rattle.std.proofs.Common.{length, refl}
 use Rattle.std.proofs.lemmas.Option.{slice_get_read}
-use Rattle.ccr_engine.proofs.Along.{attempt_fits_on, stands_none, stands_on}
+use Rattle.ccr_engine.proofs.DesksAlongHistories.{attempt_fits_on, stands_none, stands_on}
 use Rattle.ccr_engine.proofs.resuming.desk_of.Goals as goal
 
 pub loop-event-init : goal.loop-event-init

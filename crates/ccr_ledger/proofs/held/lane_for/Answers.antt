@@ -1,6 +1,7 @@
 use Rattle.std.proofs.Common.{◌≡◌, length, arith}
 use Rattle.std.proofs.lemmas.Option.{slice_get_within}
-use Rattle.ccr_ledger.proofs.Lanes.{are-one_more, last_lane, passed_over}
+use Rattle.ccr_base.proofs.Options.{get-last}
+use Rattle.ccr_ledger.proofs.Lanes.{are-one_more, passed_over}
 use Rattle.ccr_ledger.proofs.held.lane_for.Goals as goal
 
 pub returns-clause-lanes : goal.returns-clause-lanes
@@ -9,7 +10,7 @@ returns-clause-lanes c = rw c.in_ok-push.ensures.items (are-one_more c.args.item
 pub returns-clause-found : goal.returns-clause-found
 returns-clause-found c =
     let last : c.len-number.result ≡ length c.args.lanes.now.items = omega arith in
-    (c.in_ok-lane_of.field-0, last_lane c.args.lanes.now.items _ c.len-number.result c.in_ok-lane_of.field-0 last c.in_ok-push.ensures.items, c.in_ok-lane_of.ensures.pred)
+    (c.in_ok-lane_of.field-0, get-last c.args.lanes.now.items _ c.len-number.result c.in_ok-lane_of.field-0 last c.in_ok-push.ensures.items, c.in_ok-lane_of.ensures.pred)
 
 pub loop-number-preserved : goal.loop-number-preserved
 loop-number-preserved c n has = passed_over c.args.lanes.now.items c.loop-number.number n c.index.result.now c.args.pred c.is_of.result c.index.ensures c.is_of.ensures c.if-is_of.false (c.loop-number.invariant n has) has

@@ -3,12 +3,12 @@ use Rattle.std.proofs.lemmas.Option.{slice_get_within}
 use Rattle.ccr_ledger.proofs.Lanes.{tidy-front, tidy-all, tidy-more, tidy-left, lane-left, fewer-left}
 use Rattle.ccr_ledger.proofs.held.tidy.Goals as goal
 
-pub returns-in_default-clause-front : goal.returns-in_default-clause-front
-returns-in_default-clause-front c =
+pub returns-in_default-clause-prefix : goal.returns-in_default-clause-prefix
+returns-in_default-clause-prefix c =
     rw (← c.index.invariant.pred) (tidy-all c.args.items.now c.index.lane c.index.number c.index.invariant.lane c.index.invariant.tidy c.args.most (sym c.at.ensures ∙ c.in_default.is))
 
-pub returns-clause-front : goal.returns-clause-front
-returns-clause-front c =
+pub returns-clause-prefix : goal.returns-clause-prefix
+returns-clause-prefix c =
     rw (← c.index.invariant.pred) (tidy-front c.args.items.now c.index.lane c.index.number c.index.invariant.lane c.index.invariant.tidy c.args.most (omega arith))
 
 pub remove-requires : goal.remove-requires

@@ -14,4 +14,4 @@ returns-clause-lanes c = are-set c.args.items.now c.lane_for.new.lanes.items c.i
 pub returns-clause-found : goal.returns-clause-found
 returns-clause-found c = let f = c.in_ok-number.ensures.found in
     let same = c.index_mut.ensures.value ∙ get_or_from_slice_get c.lane_for.new.lanes.items c.in_ok-number.number f.0 c.index_mut.result.now f.1 in
-    (c.tidy.new.lane, set_found c.lane_for.new.lanes.items c.in_ok-number.number f.0 c.tidy.new.lane f.1, rw (same, f.2) at c.tidy.ensures.front)
+    (c.tidy.new.lane, set_found c.lane_for.new.lanes.items c.in_ok-number.number f.0 c.tidy.new.lane f.1, rw (same, f.2) at c.tidy.ensures.prefix)

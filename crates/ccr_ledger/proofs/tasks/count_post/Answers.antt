@@ -2,7 +2,7 @@ use Rattle.std.proofs.Common.{arith, ◌∙◌, sym, ap}
 use Rattle.ccr_ledger.specs.Posting.{with_post}
 use Rattle.ccr_ledger.specs.declared.cards.Card.{Card}
 use Rattle.ccr_ledger.proofs.Tables.{written, unwritten}
-use Rattle.ccr_ledger.proofs.Undone.{changed-same}
+use Rattle.ccr_ledger.proofs.ChangedBack.{changed-same}
 use Rattle.ccr_ledger.proofs.tasks.count_post.Goals as goal
 
 pub returns-in-Some-checked_add-clause-ok : goal.returns-in-Some-checked_add-clause-ok

@@ -1,4 +1,4 @@
-use Rattle.ccr_model.proofs.Covered.{IsCovered-legal}
+use Rattle.ccr_model.proofs.LegalIsCovered.{IsCovered-legal}
 use Rattle.ccr_model.proofs.laws.legal_is_covered.Goals as goal
 
 pub returns : goal.returns

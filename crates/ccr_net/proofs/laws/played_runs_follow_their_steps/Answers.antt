@@ -1,5 +1,5 @@
 use Rattle.ccr_net.proofs.Played.EachPlaceAnswers.{step_facts}
-use Rattle.ccr_net.proofs.Played.LacksElsewhere.{played_too}
+use Rattle.ccr_net.proofs.Played.RunsFollowTheirSteps.{played_too}
 use Rattle.ccr_net.proofs.laws.played_runs_follow_their_steps.Goals as goal
 
 pub returns : goal.returns

@@ -1,7 +1,8 @@
 use Rattle.std.proofs.Common.{◌≡◌, IfOk, sym, ◌∙◌, ap, subst}
-use Rattle.ccr_object.specs.Objects.{after_at, placed}
-use Rattle.ccr_net.specs.Acted.{deed_at, placed_in}
-use Rattle.ccr_net.proofs.Played.OneMoreAct.{deed_given, on_ok, on_err, placed_in-here, placed_in-set, placed_in-other}
+use Rattle.std.proofs.lemmas.Result.{on_err_weaker}
+use Rattle.ccr_object.specs.Objects.{after_at}
+use Rattle.ccr_net.specs.Acted.{deed_at}
+use Rattle.ccr_net.proofs.Played.OneMoreAct.{deed_given, on_ok, placed_in-here, placed_in-set, placed_in-other}
 use Rattle.ccr_net.proofs.plain.answer_at.Goals as goal
 
 pub returns-clause-deed : goal.returns-clause-deed
@@ -19,7 +20,7 @@ pub returns-clause-refused : goal.returns-clause-refused
 returns-clause-refused c =
     let here = placed_in-here c.args.objects.now c.args.number c.index-objects-number.result c.requires in
     let there = placed_in-set c.args.objects.now c.args.number c.answer.new.self c.requires in
-    on_err c.answer.result (λ e. there ∙ e ∙ sym here) c.answer.ensures.refused
+    on_err_weaker c.answer.result (λ e. there ∙ e ∙ sym here) c.answer.ensures.refused
 
 pub returns-clause-others : goal.returns-clause-others
 returns-clause-others c = λ k other. placed_in-other c.args.objects.now c.args.number c.answer.new.self k other

@@ -1,6 +1,6 @@
 use Rattle.std.proofs.Common.{◌<◌, sym, subst}
+use Rattle.std.proofs.lemmas.Result.{on_ok_weaker}
 use Rattle.ccr_actor.specs.Acting.{Acting}
-use Rattle.ccr_net.proofs.Played.OneMoreAct.{ok_ok}
 use Rattle.ccr_net.proofs.Played.PlayedRunsGoOn.{step_of}
 use Rattle.ccr_net.proofs.schedules.make_step.Goals as goal
 
@@ -11,4 +11,4 @@ pub answer-requires-clause-met : goal.answer-requires-clause-met
 answer-requires-clause-met c = c.requires.met (record { place = c.ask-place.result.0; ask = c.ask-place.result.1 }) c.ask-place.ensures.asked
 
 pub returns : goal.returns
-returns c = ok_ok c.answer.result (step_of c.args.places.now c.answer.new.places c.args.actor.now c.ask-place.new.self c.answer.new.actor c.args.entries.now.items c.answer.new.entries.items c.ask-place.result.0 c.ask-place.result.1 c.ask-place.ensures.asked c.ask-place.ensures.sent) c.answer.ensures
+returns c = on_ok_weaker c.answer.result (step_of c.args.places.now c.answer.new.places c.args.actor.now c.ask-place.new.self c.answer.new.actor c.args.entries.now.items c.answer.new.entries.items c.ask-place.result.0 c.ask-place.result.1 c.ask-place.ensures.asked c.ask-place.ensures.sent) c.answer.ensures

@@ -1,11 +1,8 @@
 use Rattle.std.proofs.Common.{◌≡◌, ◌+◌, List, [], length, drop, get_or, sym, ap, ◌∙◌, subst, arith}
-use Rattle.std.proofs.lemmas.Grind.{common_steps}
 use Rattle.ccr_base.proofs.Lists.{take_front}
 use Rattle.ccr_wiring.specs.declared.parts.Parts.{Parts}
 use Rattle.ccr_wiring.specs.Valid.{IsValid}
-use Rattle.ccr_wiring.proofs.Soundness.{sound}
 use Rattle.ccr_actor.specs.Acting.{Acting}
-use Rattle.ccr_runs.specs.declared.entries.Entry.{Entry}
 use Rattle.ccr_runs.specs.EntryRuns.{made_by, never, scheduled_from, with_made, IsRunAfter}
 use Rattle.ccr_net.specs.Schedules.{AreStarted, IsPlayed}
 use Rattle.ccr_net.proofs.Played.PlayedRunsGoOn.{ahead_so, played_run, played_start}

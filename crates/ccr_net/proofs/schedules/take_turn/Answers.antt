@@ -1,8 +1,8 @@
 use Rattle.std.proofs.Common.{◌≡◌, false, get_or, sym, ap, ◌∙◌}
 use Rattle.std.proofs.lemmas.Option.{slice_get-get_or}
+use Rattle.std.proofs.lemmas.Result.{on_ok_weaker}
 use Rattle.ccr_actor.specs.Acting.{is_at_rest}
 use Rattle.ccr_runs.specs.EntryRuns.{never}
-use Rattle.ccr_net.proofs.Played.OneMoreAct.{ok_ok}
 use Rattle.ccr_net.proofs.Played.PlayedRunsGoOn.{acting_quiet, acting_so, asks_one, met_so, rest_made, rests, same_read, seat_few, step_made, step_played}
 use Rattle.ccr_net.proofs.schedules.take_turn.Goals as goal
 
@@ -41,10 +41,10 @@ pub returns-clause-played : goal.returns-clause-played
 returns-clause-played c =
     let d = c.index-actors-turn-2.result in
     let team = c.args.actors.now in
-    ok_ok c.make_step.result (step_played c.args.workers never c.args.places.now team c.args.entries.now.items c.requires.workers c.requires.played c.args.turn c.requires.turn (get_or team c.args.turn d) (slice_get-get_or team c.args.turn d c.requires.turn) c.make_step.new.places c.make_step.new.actor c.make_step.new.entries.items) c.make_step.ensures
+    on_ok_weaker c.make_step.result (step_played c.args.workers never c.args.places.now team c.args.entries.now.items c.requires.workers c.requires.played c.args.turn c.requires.turn (get_or team c.args.turn d) (slice_get-get_or team c.args.turn d c.requires.turn) c.make_step.new.places c.make_step.new.actor c.make_step.new.entries.items) c.make_step.ensures
 
 pub returns-clause-made : goal.returns-clause-made
 returns-clause-made c =
     let d = c.index-actors-turn-2.result in
     let team = c.args.actors.now in
-    ok_ok c.make_step.result (step_made c.args.workers never c.args.places.now team c.args.entries.now.items c.requires.workers c.requires.played c.args.turn c.requires.turn (get_or team c.args.turn d) (slice_get-get_or team c.args.turn d c.requires.turn) c.make_step.new.places c.make_step.new.actor c.make_step.new.entries.items) c.make_step.ensures
+    on_ok_weaker c.make_step.result (step_made c.args.workers never c.args.places.now team c.args.entries.now.items c.requires.workers c.requires.played c.args.turn c.requires.turn (get_or team c.args.turn d) (slice_get-get_or team c.args.turn d c.requires.turn) c.make_step.new.places c.make_step.new.actor c.make_step.new.entries.items) c.make_step.ensures

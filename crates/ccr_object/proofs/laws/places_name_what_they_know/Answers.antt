@@ -1,4 +1,4 @@
-use Rattle.ccr_object.proofs.Kept.{place_keeps, place_named, start_keeps}
+use Rattle.ccr_object.proofs.PlacesKeepKnownNames.{place_keeps, place_named, start_keeps}
 use Rattle.ccr_object.proofs.Numbering.{exact_replies}
 use Rattle.ccr_object.proofs.laws.places_name_what_they_know.Goals as goal
 

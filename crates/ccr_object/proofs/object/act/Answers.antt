@@ -1,7 +1,7 @@
 use Rattle.std.proofs.Common.{ap, ◌∙◌}
 use Rattle.ccr_object.specs.Objects.{answered, is_due}
 use Rattle.ccr_object.specs.Queues as queues
-use Rattle.ccr_object.proofs.Due.{meter_due, ok_due, queue_due}
+use Rattle.ccr_object.proofs.RepliesFitAsks.{meter_due, ok_due, queue_due}
 use Rattle.ccr_object.proofs.object.act.Goals as goal
 
 pub returns-in-Queue-clause-fits : goal.returns-in-Queue-clause-fits

@@ -1,5 +1,5 @@
 use Rattle.std.proofs.Common.{ap, length, arith}
-use Rattle.ccr_object.proofs.Few.{few_members}
+use Rattle.ccr_object.proofs.FewSpotsAndPlaces.{few_members}
 use Rattle.ccr_object.proofs.starting.count_of.Goals as goal
 
 pub overflow_cast-result : goal.overflow_cast-result

@@ -1,6 +1,6 @@
 use Rattle.std.proofs.Common.{◌≤◌, List, length, sym, subst}
 use Rattle.ccr_base.specs.declared.names.Place.{Place}
-use Rattle.ccr_object.proofs.Few.{few_places}
+use Rattle.ccr_object.proofs.FewSpotsAndPlaces.{few_places}
 use Rattle.ccr_object.proofs.starting.places_of.Goals as goal
 
 pub returns-clause-count : goal.returns-clause-count

@@ -1,4 +1,4 @@
-use Rattle.std.proofs.Common.{◌<◌, length, arith}
+use Rattle.std.proofs.Common.{arith}
 use Rattle.ccr_port.proofs.LaneLists.{same-self, same-set, same-long, room-none, room-set}
 use Rattle.ccr_port.proofs.lanes.make_room.Goals as goal
 

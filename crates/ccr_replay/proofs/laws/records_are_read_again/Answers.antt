@@ -1,4 +1,4 @@
-use Rattle.ccr_replay.proofs.Round.{again}
+use Rattle.ccr_replay.proofs.RecordsAreReadAgain.{again}
 use Rattle.ccr_replay.proofs.laws.records_are_read_again.Goals as goal
 
 pub returns : goal.returns

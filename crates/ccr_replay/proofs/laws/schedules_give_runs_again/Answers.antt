@@ -1,4 +1,4 @@
-use Rattle.ccr_replay.proofs.Again.{actors, again, of_next, of_turns, only}
+use Rattle.ccr_replay.proofs.SchedulesGiveRuns.{actors, again, of_next, of_turns, only}
 use Rattle.ccr_replay.proofs.laws.schedules_give_runs_again.Goals as goal
 
 pub returns : goal.returns

@@ -1,4 +1,4 @@
-use Rattle.ccr_replay.proofs.Answered.{says, says_nothing}
+use Rattle.ccr_replay.proofs.AnswersTellTexts.{says, says_nothing}
 use Rattle.ccr_replay.proofs.reading.read_record.Goals as goal
 
 pub returns-clause-grammar : goal.returns-clause-grammar

@@ -1,6 +1,4 @@
 use Rattle.std.proofs.Common.{◌∙◌, ap, map}
-use Rattle.std.specs.Prelude.{IfOk}
-use Rattle.ccr_runs.specs.Deals.{key, place_of}
 use Rattle.ccr_runs.specs.Merges.{tagged}
 use Rattle.ccr_runs.specs.Orders.{in_order, merged}
 use Rattle.ccr_runs.proofs.Deals.{order_keys, key_places}

@@ -1,5 +1,5 @@
 use Rattle.std.proofs.Common.{arith}
-use Rattle.ccr_telling.proofs.Along.{along_next, along_none, along_room}
+use Rattle.ccr_telling.proofs.NumbersAlongEvents.{along_next, along_none, along_room}
 use Rattle.ccr_telling.proofs.counted.tally_of.Goals as goal
 
 pub loop-event-init : goal.loop-event-init

@@ -1,4 +1,4 @@
-use Rattle.ccr_telling.proofs.Along.{IsAlong}
+use Rattle.ccr_telling.proofs.NumbersAlongEvents.{IsAlong}
 use Rattle.ccr_telling.proofs.counted.tally_of.Given as goal
 
 abbrev pub invariant-loop-event : goal.invariant-loop-event

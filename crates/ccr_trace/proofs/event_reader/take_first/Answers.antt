@@ -1,5 +1,4 @@
 use Rattle.std.proofs.Common.{◌≡◌, ◌∷◌, [], ◌∙◌, List, ℕ, sym, ap, arith}
-use Rattle.ccr_trace.specs.Pieces.{bytes_in}
 use Rattle.ccr_trace.specs.Reading.{ended, reading_lines}
 use Rattle.ccr_trace.proofs.LineSteps.{lines_none, lines_last, lines_next, lines_stop, end_answered, bytes_more}
 use Rattle.ccr_trace.proofs.event_reader.take_first.Goals as goal

@@ -1,4 +1,4 @@
-use Rattle.std.proofs.Common.{◌≡◌, ◌++◌, ◌∷◌, arith}
+use Rattle.std.proofs.Common.{arith}
 use Rattle.std.proofs.lemmas.Grind.{common_steps}
 use Rattle.ccr_trace.proofs.Lines.{value_first}
 use Rattle.ccr_trace.proofs.words.put_joined.Goals as goal

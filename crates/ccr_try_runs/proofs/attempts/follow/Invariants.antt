@@ -1,4 +1,4 @@
-use Rattle.std.proofs.Common.{◌≡◌, ℕ, ◌+◌, ◌-◌, ◌*◌, ◌<◌, ◌≤◌, length}
+use Rattle.std.proofs.Common.{◌≡◌}
 use Rattle.ccr_claim.specs.declared.asks.Due.TheVariants as dues
 use Rattle.ccr_try_runs.proofs.attempts.follow.Given as goal
 

@@ -1,4 +1,4 @@
-use Rattle.std.proofs.Common.{◌≡◌, ℕ, ◌+◌, ◌-◌, ◌*◌, ◌<◌, ◌≤◌, length}
+use Rattle.std.proofs.Common.{◌≡◌}
 use Rattle.ccr_actor.specs.Acting.{quiet}
 use Rattle.ccr_try_runs.proofs.courses.follow.Given as goal
 

@@ -1,8 +1,9 @@
-use Rattle.std.proofs.Common.{◌≡◌, ◌++◌, ◌∷◌, take}
+use Rattle.std.proofs.Common.{◌∷◌, ℕ}
 use Rattle.std.specs.Prelude.{flat_map, decimal}
-use Rattle.std.specs.List.{AllWithin}
 use Rattle.ccr_wiretext.specs.Values.{IsNumeral}
+use Rattle.ccr_wiretext.proofs.PartsPut.{ArePut}
 use Rattle.ccr_wiretext.proofs.words.put_further.Given as goal
 
+-- the numbers so far are written
 abbrev pub invariant-loop-number : goal.invariant-loop-number
-invariant-loop-number l = record { text : l.out.items ≡ l.fn.out.items ++ flat_map (λ number. 44 ∷ decimal number) (take l.number-index l.numbers); valued : AllWithin IsNumeral l.numbers 0 l.number-index }
+invariant-loop-number l = ArePut (flat_map (λ (number : ℕ). 44 ∷ decimal number)) IsNumeral l.numbers l.number-index l.fn.out.items l.out.items

@@ -1,10 +1,9 @@
-use Rattle.std.proofs.Common.{◌≡◌, ◌++◌, take}
 use Rattle.std.specs.Prelude.{flat_map}
-use Rattle.ccr_text.specs.Spelling.{text_of}
 use Rattle.ccr_wiretext.specs.Spelling.{handler_lines}
-use Rattle.std.specs.List.{AllWithin}
 use Rattle.ccr_wiretext.specs.Values.{IsHandlerValued}
+use Rattle.ccr_wiretext.proofs.PartsPut.{AreLinesPut}
 use Rattle.ccr_wiretext.proofs.writing.put_handlers.Given as goal
 
+-- the handlers so far are written
 abbrev pub invariant-loop-part : goal.invariant-loop-part
-invariant-loop-part l = record { text : l.out.items ≡ l.fn.out.items ++ text_of (flat_map (handler_lines l.parts) (take l.part-index l.handlers)); valued : AllWithin IsHandlerValued l.handlers 0 l.part-index }
+invariant-loop-part l = AreLinesPut (flat_map (handler_lines l.parts)) IsHandlerValued l.handlers l.part-index l.fn.out.items l.out.items

@@ -1,5 +1,5 @@
 use Rattle.std.proofs.Common.{◌≡◌, drop}
-use Rattle.ccr_wiring.specs.Repeats.{are_apart}
+use Rattle.ccr_base.specs.Lists.{are_apart}
 use Rattle.ccr_wiring.proofs.repeats.are_apart.Given as goal
 
 -- none so far stands again

@@ -2,9 +2,9 @@ use Rattle.std.proofs.Common.{◌≡◌, true, false, None, Some, subst}
 use Rattle.std.specs.Prelude.{IfOk}
 use Rattle.ccr_actor.specs.Acting.{Acting, IsAfter}
 use Rattle.ccr_actor.specs.Courses.{IsHeld, IsUnanswered, seen}
-use Rattle.ccr_actor.proofs.Acted.{IsFinished, got_after, got_held, may_so, within}
+use Rattle.ccr_actor.proofs.FieldsAfterAStep.{IsFinished, got_after, got_held, may_so, within}
 use Rattle.ccr_actor.specs.Needs.{needs_memory, takes_unnumbered}
-use Rattle.ccr_actor.proofs.Needed.{got_needs, got_unnumbered}
+use Rattle.ccr_actor.proofs.AnswersNeedMemory.{got_needs, got_unnumbered}
 use Rattle.ccr_actor.proofs.actor.Actor.got.Goals as goal
 
 finished : (c : goal.After-finish) → IsFinished c.answer-made.result c.answer-made.new.self c.finish.new.self

@@ -2,7 +2,7 @@ use Rattle.std.proofs.Common.{None, Some, sym, ap, subst, ◌∙◌}
 use Rattle.std.specs.Option.{option_map}
 use Rattle.ccr_actor.specs.Acting.{Acting, next, pair_of, sent}
 use Rattle.ccr_actor.specs.Courses.{IsHeld, seen}
-use Rattle.ccr_actor.proofs.Acted.{held_none, next_asks, next_held, seen_none, sent_seen, still_none}
+use Rattle.ccr_actor.proofs.FieldsAfterAStep.{held_none, next_asks, next_held, seen_none, sent_seen, still_none}
 use Rattle.ccr_actor.proofs.actor.Actor.next.Goals as goal
 
 pub invariant_of-self : goal.invariant_of-self

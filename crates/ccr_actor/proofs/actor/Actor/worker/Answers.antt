@@ -1,4 +1,4 @@
-use Rattle.ccr_actor.proofs.Needed.{worker_begins}
+use Rattle.ccr_actor.proofs.AnswersNeedMemory.{worker_begins}
 use Rattle.ccr_actor.proofs.actor.Actor.worker.Goals as goal
 
 pub returns-clause-ok : goal.returns-clause-ok

@@ -4,7 +4,7 @@ use Rattle.ccr_actor.specs.declared.course.Part.{Part}
 use Rattle.ccr_actor.specs.declared.course.Part.TheVariants as parts
 use Rattle.ccr_actor.specs.Actors.{State}
 use Rattle.ccr_actor.specs.Courses.{IsAnswered, IsStep, answer_needs, answer_unnumbered, heard_needs, state_of, target}
-use Rattle.ccr_actor.proofs.Needed.{driven_needs, on_err}
+use Rattle.ccr_actor.proofs.AnswersNeedMemory.{driven_needs, on_err}
 use Rattle.ccr_actor.proofs.StepsOfAttempts.{always_ok, first_spot, driven_target}
 use Rattle.ccr_actor.proofs.course.Course.answer.Goals as goal
 

@@ -6,7 +6,7 @@ use Rattle.ccr_claim.specs.Attempts.{progress_of}
 use Rattle.ccr_actor.specs.Acting.{kept}
 use Rattle.ccr_actor.specs.Actors.{State, end_attempt}
 use Rattle.ccr_actor.specs.Courses.{EndsSo, IsHeard, IsGivenUp, IsPast, is_memory, fired_on, heard, heard_needs, state_of}
-use Rattle.ccr_actor.proofs.Needed.{heard_wants, on_err, wants}
+use Rattle.ccr_actor.proofs.AnswersNeedMemory.{heard_wants, on_err, wants}
 use Rattle.ccr_actor.proofs.StepsOfAttempts.{heard_in, ends, first_spot, is_first, hand_alone, fired_in, given_in, always_ok, always_err}
 use Rattle.ccr_actor.proofs.course.Course.hear.Goals as goal
 

@@ -1,7 +1,7 @@
 use Rattle.std.proofs.Common.{◌≡◌, ◌++◌, ◌∷◌, [], length, nat_lt, true, ◌∙◌, rules}
 use Rattle.ccr_base.specs.Names.{same_spot}
 use Rattle.ccr_base.specs.declared.names.Spot.TheVariants.{Site}
-use Rattle.ccr_await.proofs.Resumed.{map-drop_first, insert_key-new}
+use Rattle.ccr_await.proofs.NamesAfterCommits.{map-drop_first, insert_key-new}
 use Rattle.ccr_await.proofs.site.SiteObject.commit.Goals as goal
 
 pub returns-clause-state : goal.returns-clause-state

@@ -1,7 +1,7 @@
 use Rattle.std.proofs.Common.{◌≡◌, ◌∙◌, ◌||◌, refl, arith}
 use Rattle.ccr_model.specs.Legal.{IsAllowed}
 use Rattle.ccr_model.specs.Counts.{is_shed as is_shed_end}
-use Rattle.ccr_checker.proofs.Accepting.{IsChecker-more}
+use Rattle.ccr_checker.proofs.JudgesStayJudges.{IsChecker-more}
 use Rattle.ccr_checker.proofs.checker.Checker.accept.Goals as goal
 use Rattle.ccr_checker.proofs.checker.Checker.accept.Goals.{then-self, else-self}
 

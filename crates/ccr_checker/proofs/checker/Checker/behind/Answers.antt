@@ -1,7 +1,7 @@
 use Rattle.std.proofs.Common.{sym, subst, arith}
 use Rattle.ccr_model.specs.Legal.{IsAllowed}
 use Rattle.ccr_checker.specs.Judges.{Judged}
-use Rattle.ccr_checker.proofs.Along.{allowed_at}
+use Rattle.ccr_checker.proofs.LegalEventsOneByOne.{allowed_at}
 use Rattle.ccr_checker.proofs.checker.Checker.behind.Goals as goal
 
 pub accept-requires : goal.accept-requires

@@ -1,4 +1,4 @@
-use Rattle.ccr_checker.proofs.Accepting.{IsChecker-none}
+use Rattle.ccr_checker.proofs.JudgesStayJudges.{IsChecker-none}
 use Rattle.ccr_checker.proofs.checker.Checker.new.Goals as goal
 
 pub invariant_of-result : goal.invariant_of-result

@@ -2,7 +2,7 @@ use Rattle.std.proofs.Common.{subst, arith}
 use Rattle.std.specs.Prelude.{IfOk}
 use Rattle.ccr_checker.specs.Quiet.{MeansQuiet}
 use Rattle.ccr_checker.specs.Judges.{Judged}
-use Rattle.ccr_checker.proofs.Accepting.{quiet_told}
+use Rattle.ccr_checker.proofs.JudgesStayJudges.{quiet_told}
 use Rattle.ccr_checker.proofs.checker.Checker.quiet.Goals as goal
 
 pub returns-clause-quiet : goal.returns-clause-quiet

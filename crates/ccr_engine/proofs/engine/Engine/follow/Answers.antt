@@ -1,7 +1,7 @@
 use Rattle.std.proofs.Common.{◌≡◌, Some, sym, subst, arith}
 use Rattle.ccr_engine.specs.Desk.{IsRead}
 use Rattle.ccr_engine.specs.Engine.{Engine, next_event}
-use Rattle.ccr_engine.proofs.Along.{attempt_fits}
+use Rattle.ccr_engine.proofs.DesksAlongHistories.{attempt_fits}
 use Rattle.ccr_engine.proofs.Reading.{IsRead-next}
 use Rattle.ccr_engine.proofs.Runs.{IsSound-fits}
 use Rattle.ccr_engine.proofs.engine.Engine.follow.Goals as goal

@@ -1,6 +1,6 @@
 use Rattle.std.proofs.Common.{◌≡◌, ℕ, not, ◌&&◌, List, subst}
 use Rattle.std.specs.Prelude.{◌==◌}
-use Rattle.ccr_engine.specs.Ready.{has_number}
+use Rattle.ccr_base.specs.Lists.{has_number}
 use Rattle.ccr_engine.proofs.NumberSets.{left, least_first}
 use Rattle.ccr_engine.proofs.number_set.NumberSet.leave.Goals as goal
 

@@ -5,7 +5,7 @@ use Rattle.ccr_base.specs.declared.tasks.Commit.{Commit}
 use Rattle.ccr_places.specs.Commits.{commit_note}
 use Rattle.ccr_places.specs.Interleaves.{IsGiven}
 use Rattle.ccr_interleave.specs.Replies.{waiting_of, commit_reply}
-use Rattle.ccr_interleave.proofs.Given.{given-fired}
+use Rattle.ccr_interleave.proofs.FiringsMayBeGiven.{given-fired}
 use Rattle.ccr_interleave.proofs.interleave.InterleaveObject.commit.Goals as goal
 
 pub returns-then-is_teardown-clause-given : goal.returns-then-is_teardown-clause-given

@@ -1,8 +1,5 @@
-use Rattle.std.proofs.Common.{◌≡◌, List, [], map, length, sym, ap, ◌∙◌, subst}
-use Rattle.ccr_object.specs.declared.deed.Deed.{Deed}
+use Rattle.std.proofs.Common.{map, ap, ◌∙◌}
 use Rattle.ccr_object.specs.Objects.{placed}
-use Rattle.ccr_runs.specs.declared.acts.Act.{Act}
-use Rattle.ccr_net.specs.Acted.{IsLeft}
 use Rattle.ccr_net.proofs.Played.OneMoreAct.{IsLeft-start}
 use Rattle.ccr_net.proofs.plain.PlainPlaces.start.Goals as goal
 

@@ -1,5 +1,5 @@
-use Rattle.std.proofs.Common.{◌∙◌, ◌<◌, ◌+◌, ◌^◌, length, sym, ap, arith}
-use Rattle.ccr_port.specs.Entries.{keys_of, entries_at, linked_keys}
+use Rattle.std.proofs.Common.{◌∙◌, ap, arith}
+use Rattle.ccr_port.specs.Entries.{linked_keys}
 use Rattle.ccr_port.specs.Chains.{has_key}
 use Rattle.ccr_port.proofs.ItemLinks.{last-kept, items-appended, entries-appended, absent, keys-entries, length-entries}
 use Rattle.ccr_port.proofs.items.Items.append.Goals as goal

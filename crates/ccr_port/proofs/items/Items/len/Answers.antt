@@ -1,5 +1,5 @@
 use Rattle.std.proofs.Common.{◌∙◌, sym, ap}
-use Rattle.ccr_port.specs.Chains.{are_apart}
+use Rattle.ccr_base.specs.Lists.{are_apart}
 use Rattle.ccr_port.specs.Entries.{linked_keys}
 use Rattle.ccr_port.proofs.ItemLinks.{keys-entries, length-entries}
 use Rattle.ccr_port.proofs.items.Items.len.Goals as goal

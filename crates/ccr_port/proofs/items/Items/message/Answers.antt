@@ -1,4 +1,4 @@
-use Rattle.std.proofs.Common.{◌∙◌, ap, Some}
+use Rattle.std.proofs.Common.{◌∙◌, ap}
 use Rattle.std.specs.Prelude.{option_map}
 use Rattle.ccr_port.specs.declared.items.LinkedMessage.{LinkedMessage}
 use Rattle.ccr_port.specs.Entries.{linked_keys}

@@ -1,5 +1,3 @@
-use Rattle.std.proofs.Common.{◌∙◌, ◌≡◌, Bool, true, Some, Option, is_some}
-use Rattle.slab.specs.Slab.{get}
 use Rattle.ccr_port.proofs.ItemLinks.{has-linked, has-value, before-kept, behind-kept, items-taken, entries-taken, message-taken}
 use Rattle.ccr_port.proofs.items.Items.take.Goals as goal
 

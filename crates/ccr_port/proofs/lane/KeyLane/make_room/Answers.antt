@@ -1,4 +1,3 @@
-use Rattle.std.proofs.Common.{◌∙◌, refl}
 use Rattle.ccr_port.proofs.LaneLinks.{lane-grown}
 use Rattle.ccr_port.proofs.lane.KeyLane.make_room.Goals as goal
 

@@ -2,7 +2,7 @@ use Rattle.std.proofs.Common.{◌∙◌, ap, length, sym, take, refl, arith}
 use Rattle.ccr_places.specs.Ports.{PortState}
 use Rattle.ccr_port.specs.declared.claims.Claimed.TheVariants.{Got}
 use Rattle.ccr_port.specs.Replies.{are_at}
-use Rattle.ccr_port.proofs.Owned.{claim_fits}
+use Rattle.ccr_port.proofs.MessagesBearTheirPort.{claim_fits}
 use Rattle.ccr_port.specs.Entries.{are_under, messages_under}
 use Rattle.ccr_port.proofs.PortSteps.{lane-keys, short-reply, short-note, short-step, short-after, marks-there, got-reply, got-note, got-step, got-after, claimed}
 use Rattle.ccr_port.proofs.port.PortObject.claim.Goals as goal

@@ -2,7 +2,7 @@ use Rattle.std.proofs.Common.{◌≡◌, ◌==◌, ◌∙◌, sym, ap, refl, rul
 use Rattle.ccr_base.specs.declared.messages.Msg.{Msg}
 use Rattle.ccr_places.specs.Ports.{PortState}
 use Rattle.ccr_port.proofs.Listing.{messages-more, without-more, has-more, under-more}
-use Rattle.ccr_port.proofs.Owned.{own_post}
+use Rattle.ccr_port.proofs.MessagesBearTheirPort.{own_post}
 use Rattle.ccr_port.proofs.PortSteps.{few_posted, posted, may_enter-all, gave_up}
 use Rattle.ccr_port.proofs.port.PortObject.post.Goals as goal
 

@@ -1,4 +1,3 @@
-use Rattle.std.proofs.Common.{◌≡◌, ◌∙◌, ap, sym, map, length, List, Some}
 use Rattle.ccr_runs.proofs.Deals.{dealt_merged, has_merged}
 use Rattle.ccr_runs.proofs.dealing.Deal.of.Goals as goal
 

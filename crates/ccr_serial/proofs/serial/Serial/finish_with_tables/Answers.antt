@@ -14,10 +14,10 @@ pub steps-preserved : goal.steps-preserved
 steps-preserved c = (goes_on c).0
 
 pub returns-clause-finished : goal.returns-clause-finished
-returns-clause-finished c = (IsDone-next c.args.self c.steps.self _ c.self.invariant.sound c.steps.invariant (grind arith) (grind arith)).finished
+returns-clause-finished c = (IsDone-next c.args.self c.steps.self _ c.self-2.invariant.sound c.steps.invariant (grind arith) (grind arith)).finished
 
 pub returns-clause-complete : goal.returns-clause-complete
-returns-clause-complete c = (IsDone-next c.args.self c.steps.self _ c.self.invariant.sound c.steps.invariant (grind arith) (grind arith)).complete
+returns-clause-complete c = (IsDone-next c.args.self c.steps.self _ c.self-2.invariant.sound c.steps.invariant (grind arith) (grind arith)).complete
 
 pub returns-clause-quiet : goal.returns-clause-quiet
-returns-clause-quiet c = (IsDone-next c.args.self c.steps.self _ c.self.invariant.sound c.steps.invariant (grind arith) (grind arith)).quiet
+returns-clause-quiet c = (IsDone-next c.args.self c.steps.self _ c.self-2.invariant.sound c.steps.invariant (grind arith) (grind arith)).quiet

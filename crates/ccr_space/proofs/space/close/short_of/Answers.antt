@@ -1,6 +1,6 @@
-use Rattle.std.proofs.Common.{◌≡◌, ◌∙◌, ◌++◌, ◌∷◌, [], ℕ, List, sym, ap}
+use Rattle.std.proofs.Common.{◌∙◌, ◌++◌, ◌∷◌, [], ℕ, List, sym, ap}
 use Rattle.std.specs.Prelude.{if◌then◌else◌}
-use Rattle.ccr_space.specs.Spaces.{is_stopped_in, stopped_of}
+use Rattle.ccr_space.specs.Spaces.{is_stopped_in}
 use Rattle.ccr_space.proofs.Resting.{stopped_more}
 use Rattle.ccr_space.proofs.space.close.short_of.Goals as goal
 

@@ -1,4 +1,4 @@
-use Rattle.std.proofs.Common.{◌≡◌, ◌∙◌, sym, ap, subst, length, List}
+use Rattle.std.proofs.Common.{◌∙◌, sym, ap, subst, length, List}
 use Rattle.std.specs.Prelude.{All}
 use Rattle.ccr_space.specs.Spaces.{IsAtRest, IsPassOf, number}
 use Rattle.ccr_space.proofs.Dealing.{length_by_number}

@@ -1,4 +1,4 @@
-use Rattle.ccr_space.proofs.Through.{brought, brought_is_done}
+use Rattle.ccr_space.proofs.RestedActorsAreThrough.{brought, brought_is_done}
 use Rattle.ccr_space.proofs.space.threads.shown_threads.Goals as goal
 
 pub returns : goal.returns

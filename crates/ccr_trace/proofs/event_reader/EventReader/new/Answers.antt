@@ -1,4 +1,4 @@
-use Rattle.std.proofs.Common.{◌≡◌, ◌≤◌, refl, arith}
+use Rattle.std.proofs.Common.{◌≤◌, refl, arith}
 use Rattle.ccr_trace.specs.Pieces.{pieces, bytes_in}
 use Rattle.ccr_trace.proofs.LineSteps.{bytes-pieces}
 use Rattle.ccr_trace.proofs.event_reader.EventReader.new.Goals as goal

@@ -2,7 +2,7 @@ use Rattle.std.proofs.Common.{◌≡◌, ◌+◌, ◌∷◌, [], ◌∙◌, Err,
 use Rattle.ccr_trace.specs.declared.reading.ReadHistory.{ReadHistory}
 use Rattle.ccr_trace.specs.Answers.{IsReading}
 use Rattle.ccr_trace.specs.EventReaders.{Reader, HasRead, HasReadAll, reading_of}
-use Rattle.ccr_trace.specs.Reading.{ended, reading_from, with_event}
+use Rattle.ccr_trace.specs.Reading.{ended, reading_from}
 use Rattle.ccr_trace.proofs.LineSteps.{reading_none, reading_last, reading_done, reading_next, stopped, end_answered}
 use Rattle.ccr_trace.proofs.event_reader.EventReader.next.Goals as goal
 

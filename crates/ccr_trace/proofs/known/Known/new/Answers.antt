@@ -1,8 +1,7 @@
-use Rattle.std.proofs.Common.{◌≡◌, ◌≤◌, ℕ, List, map, length, Bor, refl, sym, arith, ap, ◌∙◌}
+use Rattle.std.proofs.Common.{◌≡◌, ◌≤◌, ℕ, List, length, Bor, refl, sym, arith, ◌∙◌}
 use Rattle.std.proofs.lemmas.List.{length-map}
 use Rattle.ccr_wiring.specs.Wirings.{placements}
-use Rattle.ccr_trace.specs.Words.{branch_names, cause_names}
-use Rattle.ccr_trace.proofs.Numbered.{seen}
+use Rattle.ccr_trace.specs.Words.{branch_names}
 use Rattle.ccr_trace.proofs.Apart.{ports_apart, causes_apart, branches_apart, length-branch_names}
 use Rattle.ccr_trace.proofs.known.Known.new.Goals as goal
 

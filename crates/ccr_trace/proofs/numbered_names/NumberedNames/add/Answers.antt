@@ -1,4 +1,4 @@
-use Rattle.std.proofs.Common.{◌≡◌, ◌++◌, ◌∷◌, [], false, refl, ◌∙◌, ap}
+use Rattle.std.proofs.Common.{◌≡◌, false, refl, ◌∙◌, ap}
 use Rattle.std.specs.List.{list_any}
 use Rattle.std.specs.Str.{bytes_eq}
 use Rattle.ccr_trace.proofs.Numbered.{seen, seen-insert}

@@ -4,7 +4,7 @@ use Rattle.ccr_turns.specs.Views.{view}
 use Rattle.ccr_turns.specs.Logs.{noted, log_entry}
 use Rattle.ccr_turns.specs.Lists.{last_of}
 use Rattle.ccr_turns.specs.Histories.{history_stamps}
-use Rattle.ccr_turns.proofs.Keeps.{enters_at}
+use Rattle.ccr_turns.proofs.StepsKeepTheRule.{enters_at}
 use Rattle.ccr_turns.proofs.turns.Turns.enter.Goals as goal
 
 pub swap-found-requires : goal.swap-found-requires

@@ -1,5 +1,5 @@
 use Rattle.std.proofs.Common.{◌∙◌}
-use Rattle.ccr_turns.proofs.Keeps.{leaves_at}
+use Rattle.ccr_turns.proofs.StepsKeepTheRule.{leaves_at}
 use Rattle.ccr_turns.proofs.turns.Turns.leave.Goals as goal
 
 pub swap-found-requires : goal.swap-found-requires

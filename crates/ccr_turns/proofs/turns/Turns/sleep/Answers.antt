@@ -1,6 +1,6 @@
 use Rattle.std.proofs.Common.{◌<◌, ◌∙◌, sym, subst}
 use Rattle.ccr_turns.specs.Seated.{Won}
-use Rattle.ccr_turns.proofs.Keeps.{waits}
+use Rattle.ccr_turns.proofs.StepsKeepTheRule.{waits}
 use Rattle.ccr_turns.proofs.Acting.{ready_again, won_lock}
 use Rattle.ccr_turns.proofs.turns.Turns.sleep.Goals as goal
 

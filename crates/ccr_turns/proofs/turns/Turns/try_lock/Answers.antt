@@ -1,5 +1,5 @@
 use Rattle.std.proofs.Common.{◌<◌, sym, subst}
-use Rattle.ccr_turns.proofs.Keeps.{wins}
+use Rattle.ccr_turns.proofs.StepsKeepTheRule.{wins}
 use Rattle.ccr_turns.proofs.Acting.{tried}
 use Rattle.ccr_turns.proofs.turns.Turns.try_lock.Goals as goal
 

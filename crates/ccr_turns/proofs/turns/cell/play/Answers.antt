@@ -1,5 +1,4 @@
-use Rattle.std.proofs.Common.{◌≡◌, ◌+◌, ◌++◌, ◌∷◌, [], ◌∙◌, ap, sym, refl, arith, length, length-append}
-use Rattle.std.proofs.lemmas.List.{map-append}
+use Rattle.std.proofs.Common.{◌+◌, ◌++◌, ◌∷◌, [], ◌∙◌, ap, sym, refl, arith, length, length-append}
 use Rattle.std.proofs.lemmas.List.Elements.{filter-append}
 use Rattle.ccr_turns.specs.Lists.{last_of}
 use Rattle.ccr_turns.specs.Histories.{history_stamps, keeps, sifted, past}

@@ -7,7 +7,7 @@ use Rattle.ccr_turns.specs.Lists.{Rises}
 use Rattle.ccr_turns.specs.Locks.{IsSeatOf, keep_of, sifted_of}
 use Rattle.ccr_object.specs.Events.{has_event}
 use Rattle.ccr_runs.specs.Orders.{merged}
-use Rattle.ccr_space.specs.Closes.{Kept, told}
+use Rattle.ccr_space.specs.Closes.{PlaceAndHistory, told}
 use Rattle.ccr_space.specs.Shows.{acts_shown}
 use Rattle.ccr_space.specs.Spaces.{Pass, wiring_of}
 use Rattle.ccr_space.proofs.Closing.{all_mapped, closed_by}
@@ -31,8 +31,8 @@ pub of-requires-clause-rising : goal.of-requires-clause-rising
 of-requires-clause-rising c =
     let its = c.in_ok-kept.ensures.locks in
     let keep = keep_of c.args.self.turns in
-    subst (λ (kept : List Kept). All (λ (left : Kept). Rises 0 (history_stamps left.1)) kept) (sym its.part)
-    (all_mapped (λ (left : Kept). Rises 0 (history_stamps left.1)) (sifted_of (keeps keep has_event)) its.whole (λ k d l. sifted_rises keep 0 (get_or its.whole k d).1 (its.rising k d l)))
+    subst (λ (kept : List PlaceAndHistory). All (λ (left : PlaceAndHistory). Rises 0 (history_stamps left.1)) kept) (sym its.part)
+    (all_mapped (λ (left : PlaceAndHistory). Rises 0 (history_stamps left.1)) (sifted_of (keeps keep has_event)) its.whole (λ k d l. sifted_rises keep 0 (get_or its.whole k d).1 (its.rising k d l)))
 
 pub returns-clause-run : goal.returns-clause-run
 returns-clause-run c =

@@ -1,5 +1,4 @@
-use Rattle.std.proofs.Common.{◌≡◌, ◌∙◌, ℕ, [], sym, ap, subst}
-use Rattle.ccr_base.specs.declared.names.Place.{Place}
+use Rattle.std.proofs.Common.{◌≡◌, ◌∙◌, [], sym, ap, subst}
 use Rattle.ccr_turns.specs.Locks.{log_of}
 use Rattle.ccr_runs.specs.Runs.{IsProper}
 use Rattle.ccr_claim.specs.declared.asks.Asked.{Asked}

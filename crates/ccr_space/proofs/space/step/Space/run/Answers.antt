@@ -1,5 +1,5 @@
 use Rattle.std.proofs.Common.{◌∙◌}
-use Rattle.ccr_space.proofs.Longer.{step_more}
+use Rattle.ccr_space.proofs.LogsGrow.{step_more}
 use Rattle.ccr_space.proofs.space.step.Space.run.Goals as goal
 
 pub loop-preserved : goal.loop-preserved

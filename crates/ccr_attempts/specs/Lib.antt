@@ -1,3 +1,0 @@
-pub mod Trials
-pub mod RunSteps
-pub mod Lawful

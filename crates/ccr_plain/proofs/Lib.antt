@@ -1,0 +1,5 @@
+mod CostsAreOwed
+mod CutsAreFew
+mod RepliesAreKnown
+mod ServingKeepsRoom
+mod RefusedActorsGoOn

@@ -1,0 +1,3 @@
+pub mod Shortages
+pub mod Owed
+pub mod Served

@@ -1,5 +1,0 @@
-use Rattle.ccr_space.specs.Spaces.{IsPassOf}
-use Rattle.ccr_tests.proofs.spaces.make.Given as goal
-
-abbrev pub invariant-loop : goal.invariant-loop
-invariant-loop g l = IsPassOf l.space l.pass

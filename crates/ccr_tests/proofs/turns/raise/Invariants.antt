@@ -1,5 +1,0 @@
-use Rattle.ccr_turns.specs.Locks.{IsSeatOf}
-use Rattle.ccr_tests.proofs.turns.raise.Given as goal
-
-abbrev pub invariant-loop : goal.invariant-loop
-invariant-loop g l = IsSeatOf l.turns l.seat
