@@ -4,7 +4,7 @@ use crate::ccr_model::History;
 use crate::ccr_report::{Counts, counted_text};
 use crate::ccr_space::shown_threads;
 use crate::ccr_telling::{Judgement, Told, judge_text, tell_to_end};
-use crate::ccr_text::{line_of, put_bytes};
+use crate::ccr_text::{find_line, put_bytes};
 use crate::ccr_wiretext::read_wiring;
 use crate::ccr_wiring::Wiring;
 use crate::kit::Global;
@@ -41,7 +41,7 @@ fn run(text: &[u8], workers: u32) -> Result<Text, OutOfMemory> {
 }
 
 fn verify(text: &[u8]) -> Result<Text, OutOfMemory> {
-    let (place, before) = line_of(text, b"history");
+    let (place, before) = find_line(text, b"history");
     let Ok(wiring) = read_wiring(Global, &text[..place]) else { return said("refused\n") };
     let output = &text[place..];
     let Ok(judgement) = judge_text(Global, &wiring, output) else { return said("malformed\n") };

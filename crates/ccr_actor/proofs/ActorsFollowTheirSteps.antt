@@ -45,21 +45,21 @@ settled-on wiring state more (replies.Drawn n) = refl
 settled-on wiring state more replies.Spent = refl
 settled-on wiring state more (replies.Left n) = refl
 
-play-on : (wiring : Parts) (state : State) (task : Task) (place : ℕ) (play : Play) (posts : List Sent) (end : PlayEnd) (reply : Reply) → play.posts ≡ posts → play.end ≡ end → state.work ≡ playing task place play
-    → after_work wiring (record state { work = sent_play task place play posts end }) (sent_play task place play posts end) reply ≡ after_play wiring state task place play posts reply
-play-on wiring state task place play [] plays.Done reply none is at = rw (none) (ap (λ (w : Work). after_play wiring (record state { work = w }) task place play [] reply) (sym at))
-play-on wiring state task place play [] (plays.Failed value) reply none is at = rw (none) (ap (λ (w : Work). after_play wiring (record state { work = w }) task place play [] reply) (sym at))
-play-on wiring state task place play [] (plays.Yield site) reply none is at = rw (none, is) refl
-play-on wiring state task place play (sent ∷ posts) plays.Done reply some is at = rw (some) (ap (λ (w : Work). after_play wiring (record state { work = w }) task place play (sent ∷ posts) reply) (sym at))
-play-on wiring state task place play (sent ∷ posts) (plays.Failed value) reply some is at = rw (some) (ap (λ (w : Work). after_play wiring (record state { work = w }) task place play (sent ∷ posts) reply) (sym at))
-play-on wiring state task place play (sent ∷ posts) (plays.Yield site) reply some is at = rw (some) (ap (λ (w : Work). after_play wiring (record state { work = w }) task place play (sent ∷ posts) reply) (sym at))
+play-on : (wiring : Parts) (state : State) (task : Task) (index : ℕ) (play : Play) (posts : List Sent) (end : PlayEnd) (reply : Reply) → play.posts ≡ posts → play.end ≡ end → state.work ≡ playing task index play
+    → after_work wiring (record state { work = sent_play task index play posts end }) (sent_play task index play posts end) reply ≡ after_play wiring state task index play posts reply
+play-on wiring state task index play [] plays.Done reply none is at = rw (none) (ap (λ (w : Work). after_play wiring (record state { work = w }) task index play [] reply) (sym at))
+play-on wiring state task index play [] (plays.Failed value) reply none is at = rw (none) (ap (λ (w : Work). after_play wiring (record state { work = w }) task index play [] reply) (sym at))
+play-on wiring state task index play [] (plays.Yield site) reply none is at = rw (none, is) refl
+play-on wiring state task index play (sent ∷ posts) plays.Done reply some is at = rw (some) (ap (λ (w : Work). after_play wiring (record state { work = w }) task index play (sent ∷ posts) reply) (sym at))
+play-on wiring state task index play (sent ∷ posts) (plays.Failed value) reply some is at = rw (some) (ap (λ (w : Work). after_play wiring (record state { work = w }) task index play (sent ∷ posts) reply) (sym at))
+play-on wiring state task index play (sent ∷ posts) (plays.Yield site) reply some is at = rw (some) (ap (λ (w : Work). after_play wiring (record state { work = w }) task index play (sent ∷ posts) reply) (sym at))
 
 work-on : (wiring : Parts) (state : State) (work : Work) (reply : Reply) → state.work ≡ work → after_work wiring (record state { work = sent_work work }) (sent_work work) reply ≡ after_work wiring state work reply
-work-on wiring state (lines place sents) reply at = ap (λ (w : Work). after_work wiring (record state { work = w }) (lines place sents) reply) (sym at)
+work-on wiring state (lines index sents) reply at = ap (λ (w : Work). after_work wiring (record state { work = w }) (lines index sents) reply) (sym at)
 work-on wiring state round reply at = ap (λ (w : Work). after_work wiring (record state { work = w }) round reply) (sym at)
 work-on wiring state (taking left queue more) reply at = ap (λ (w : Work). after_work wiring (record state { work = w }) (taking left queue more) reply) (sym at)
-work-on wiring state (playing task place play) reply at = play-on wiring state task place play play.posts play.end reply refl refl at
-work-on wiring state (posting task place play sent) reply at = refl
+work-on wiring state (playing task index play) reply at = play-on wiring state task index play play.posts play.end reply refl refl at
+work-on wiring state (posting task index play sent) reply at = refl
 work-on wiring state (shedding task) reply at = ap (λ (w : Work). after_work wiring (record state { work = w }) (shedding task) reply) (sym at)
 work-on wiring state resting reply at = ap (λ (w : Work). after_work wiring (record state { work = w }) resting reply) (sym at)
 
@@ -79,7 +79,7 @@ going-on wiring actor state work one reply at goes is =
 
 step-in : (wiring : Parts) (actor : ℕ) (state : State) (t : Turn) (one : Asked) (reply : Reply) → turn state ≡ t → ask_in wiring actor state t ≡ Some one → reached (asking-at wiring actor state t) reply ≡ after_in wiring actor state t reply
 step-in wiring actor state (settle first more) one reply goes is = settled-on wiring state more reply
-step-in wiring actor state (admit arbiter more) one reply goes is = ap (λ (t : Turn). after_in wiring actor state t reply) goes
+step-in wiring actor state (admit domain more) one reply goes is = ap (λ (t : Turn). after_in wiring actor state t reply) goes
 step-in wiring actor state (drive spot more) one reply goes is = ap (λ (t : Turn). after_in wiring actor state t reply) goes
 step-in wiring actor state go_on one reply goes is = going-on wiring actor state state.work one reply refl goes is
 step-in wiring actor state stop one reply goes is = cc is
@@ -110,7 +110,7 @@ never-refused asks.Left is may = cc is
 refused-in : (wiring : Parts) (actor : ℕ) (state : State) (t : Turn) (one : Asked) → IsTurnOf state t → AreSettling state.hand → ask_in wiring actor state t ≡ Some one → is_refusable (due_in (asking_of t (ask_in wiring actor state t))) ≡ true
     → (state.is_short ≡ false) × (kept (shorten wiring actor (sent_state state t)) ≡ kept (shorten wiring actor state))
 refused-in wiring actor state (settle first more) one goes all is may = absurd (never-refused first.ask (subst AreSettling goes all).0 may)
-refused-in wiring actor state (admit arbiter more) one goes all is may = (goes.0, refl)
+refused-in wiring actor state (admit domain more) one goes all is may = (goes.0, refl)
 refused-in wiring actor state (drive spot more) one goes all is may = (goes.0, refl)
 refused-in wiring actor state go_on one goes all is may = (goes.0, refl)
 refused-in wiring actor state stop one goes all is may = cc is

@@ -1,6 +1,6 @@
 -- Which answers need memory: what the parts of the code say of it, and what contracts see.
 use Rattle.std.proofs.Common.{◌≡◌, ◌<◌, ◌≤◌, ◌^◌, ℕ, Bool, true, false, List, [], ◌∷◌, length, Option, Some, None, Result, Ok, Err, refl, sym, ap, subst, inl, inr, arith, ◌∙◌}
-use Rattle.std.specs.Prelude.{◌||◌, nat_lt, IfOk, IsOk, OnOk, OnErr}
+use Rattle.std.specs.Prelude.{nat_lt, IfOk, IsOk, OnOk, OnErr}
 use Rattle.std.specs.List.{slice_get}
 use Rattle.std.specs.Option.{option_map_or}
 use Rattle.std.proofs.lemmas.Bool.Decides.{nat_tests}
@@ -8,6 +8,7 @@ use Rattle.std.proofs.lemmas.Option.{slice_get_past}
 use Rattle.ccr_base.specs.declared.list.OutOfMemory.{OutOfMemory}
 use Rattle.ccr_base.specs.declared.names.Spot.{Spot}
 use Rattle.ccr_base.specs.declared.names.TaskId.{TaskId}
+use Rattle.ccr_base.proofs.Booleans.{or_left, or_right}
 use Rattle.ccr_wiring.specs.declared.parts.Parts.{Parts}
 use Rattle.ccr_wiring.specs.declared.parts.PosterPart.{PosterPart}
 use Rattle.ccr_claim.specs.declared.asks.Asked.{Asked}
@@ -87,11 +88,11 @@ free-hand : (course : Course) → IsFree course → (state_of course).hand ≡ [
 free-hand course free = hand_alone course free.idle.dropped free.idle.put ∙ free.idle.hand
 
 -- what holds of the turn of an actor that has an Interleave to ask
-admits : (P : Turn → Type 0) (short : Bool) (hand : List Asked) (domains : List ℕ) (spots : List Spot) → short ≡ false → hand ≡ [] → 0 < length domains → ((arbiter : ℕ) (more : List ℕ) → P (admit arbiter more)) → P (turn_of short hand domains spots)
+admits : (P : Turn → Type 0) (short : Bool) (hand : List Asked) (domains : List ℕ) (spots : List Spot) → short ≡ false → hand ≡ [] → 0 < length domains → ((domain : ℕ) (more : List ℕ) → P (admit domain more)) → P (turn_of short hand domains spots)
 admits P true hand domains spots long none few all = absurd (cc long)
 admits P false (one ∷ hand) domains spots long none few all = absurd (cc none)
 admits P false [] [] spots long none few all = absurd (omega (arith, few))
-admits P false [] (arbiter ∷ more) spots long none few all = all arbiter more
+admits P false [] (domain ∷ more) spots long none few all = all domain more
 
 work-turn : (short : Bool) (hand : List Asked) (domains : List ℕ) (spots : List Spot) → short ≡ false → hand ≡ [] → domains ≡ [] → spots ≡ [] → turn_of short hand domains spots ≡ go_on
 work-turn short hand domains spots s h a p = rw (s, h, a, p) refl
@@ -120,7 +121,7 @@ needs-so course parts.Put due reply asked long = ap (λ (s : State). settling_ne
 needs-so course parts.Admit due reply asked long =
     let s = state_of course in
     ap (λ (s : State). turn_needs course.wiring.now s (turn s) reply) (kept_whole s long)
-    ∙ admits (λ t. turn_needs course.wiring.now s t reply ≡ false) course.short s.hand course.domains.items (spots_left s) long (free-hand course asked.0) asked.1 (λ arbiter more. refl)
+    ∙ admits (λ t. turn_needs course.wiring.now s t reply ≡ false) course.short s.hand course.domains.items (spots_left s) long (free-hand course asked.0) asked.1 (λ domain more. refl)
 needs-so course parts.Drive due reply asked long =
     let s = state_of course in
     let goes = drives course due asked in
@@ -136,7 +137,7 @@ unnumbered-so course parts.Put due reply asked = refl
 unnumbered-so course parts.Admit due reply asked =
     let s = state_of course in
     ap (λ (s : State). turn_unnumbered course.wiring.now s (turn s) reply) (kept_whole s asked.0.short)
-    ∙ admits (λ t. turn_unnumbered course.wiring.now s t reply ≡ false) course.short s.hand course.domains.items (spots_left s) asked.0.short (free-hand course asked.0) asked.1 (λ arbiter more. refl)
+    ∙ admits (λ t. turn_unnumbered course.wiring.now s t reply ≡ false) course.short s.hand course.domains.items (spots_left s) asked.0.short (free-hand course asked.0) asked.1 (λ domain more. refl)
 unnumbered-so course parts.Drive due reply asked =
     let s = state_of course in
     let goes = drives course due asked in
@@ -144,14 +145,6 @@ unnumbered-so course parts.Drive due reply asked =
 unnumbered-so course parts.Work due reply asked =
     let s = state_of course in
     ap (λ (s : State). turn_unnumbered course.wiring.now s (turn s) reply) (kept_whole s asked.0.short) ∙ ap (λ t. turn_unnumbered course.wiring.now s t reply) (works course due asked)
-
-or-left : (one other : Bool) → one ≡ true → (one || other) ≡ true
-or-left true other is = refl
-or-left false other is = absurd (cc is)
-
-or-right : (one other : Bool) → other ≡ true → (one || other) ≡ true
-or-right true other is = refl
-or-right false other is = is
 
 -- the state before what is asked next is made ready
 mid-is : (old mid : Course) (part : Part) (due : Due) (reply : Reply) → IsAsked old part due → old.short ≡ false → mid.short ≡ false → kept (state_of mid) ≡ kept (target part old.wiring.now old.number (state_of old) (Ok reply))
@@ -169,10 +162,10 @@ needs-reply : {E : Type 0} (made : Result E OutOfMemory) (old mid new : Course) 
 needs-reply (Ok done) old mid new part due reply asked beside step kept_so next_so long short =
     let a = seen old (Some (part, due)) in
     let still : mid.short ≡ false = beside.short ∙ long in
-    or-right (kept_needs a (asking_in part due) reply) (next_needs (state_after_reply a (asking_in part due) reply)) (ap next_needs (mid-is old mid part due reply asked long still step) ∙ next_so still short)
+    or_right (kept_needs a (asking_in part due) reply) (next_needs (state_after_reply a (asking_in part due) reply)) (ap next_needs (mid-is old mid part due reply asked long still step) ∙ next_so still short)
 needs-reply (Err e) old mid new part due reply asked beside step kept_so next_so long short =
     let a = seen old (Some (part, due)) in
-    or-left (kept_needs a (asking_in part due) reply) (next_needs (state_after_reply a (asking_in part due) reply)) (needs-so old part due reply asked long ∙ kept_so)
+    or_left (kept_needs a (asking_in part due) reply) (next_needs (state_after_reply a (asking_in part due) reply)) (needs-so old part due reply asked long ∙ kept_so)
 
 -- short then, it needed memory
 pub got_needs : {E : Type 0} (made : Result E OutOfMemory) (old mid new : Course) (part : Part) (due : Due) (answer : MaybeReply) → IsAsked old part due → IsBeside old mid → IsStep made old.wiring.now old.number (target part old.wiring.now old.number (state_of old) answer) (state_of mid)

@@ -14,7 +14,7 @@ use Rattle.ccr_claim.specs.declared.asks.Asked.{Asked}
 use Rattle.ccr_claim.specs.declared.asks.Reply.{Reply}
 use Rattle.ccr_claim.specs.declared.asks.Reply.TheVariants as replies
 use Rattle.ccr_wiring.specs.Wirings.{next_site}
-use Rattle.ccr_actor.specs.Actors.{State, Work, lines, round, taking, playing, posting, shedding, resting, Turn, settle, admit, drive, go_on, stop, turn, add_arbiter, settled, after_admit, after_attempt, after_end, after_line, after_play, after_round, after_take, after_work, take_from, after_in, after, most_admitted, most_fired}
+use Rattle.ccr_actor.specs.Actors.{State, Work, lines, round, taking, playing, posting, shedding, resting, Turn, settle, admit, drive, go_on, stop, turn, add_domain, settled, after_admit, after_attempt, after_end, after_line, after_play, after_round, after_take, after_work, take_from, after_in, after, most_admitted, most_fired}
 use Rattle.ccr_actor.specs.Courses.{AreFew, IsBounded}
 use Rattle.ccr_actor.proofs.TurnsTellStates.{IsTurnOf, turn_is}
 
@@ -46,7 +46,7 @@ bounded_settled wiring state more (replies.Admitted t) is = record { spots = is.
 bounded_settled wiring state more replies.Booked is = record { spots = is.spots; domains = is.domains }
 bounded_settled wiring state more (replies.Full n) is = record { spots = is.spots; domains = is.domains }
 bounded_settled wiring state more (replies.Dropped None) is = record { spots = is.spots; domains = is.domains }
-bounded_settled wiring state more (replies.Dropped (Some task)) is = record { spots = is.spots; domains = tested most_admitted (nat_lt state.admitted most_admitted) (add_arbiter wiring task.arbiter state.domains) state.domains state.admitted refl is.domains }
+bounded_settled wiring state more (replies.Dropped (Some task)) is = record { spots = is.spots; domains = tested most_admitted (nat_lt state.admitted most_admitted) (add_domain wiring task.arbiter state.domains) state.domains state.admitted refl is.domains }
 bounded_settled wiring state more (replies.Taken t) is = record { spots = is.spots; domains = is.domains }
 bounded_settled wiring state more (replies.Drawn n) is = record { spots = is.spots; domains = is.domains }
 bounded_settled wiring state more replies.Spent is = record { spots = is.spots; domains = is.domains }
@@ -111,26 +111,26 @@ bounded_end wiring state task plays.Done is = record { spots = is.spots; domains
 bounded_end wiring state task (plays.Failed value) is = record { spots = is.spots; domains = none-admitted _ }
 bounded_end wiring state task (plays.Yield site) is = record { spots = none-fired (next_site task.spot ∷ []); domains = is.domains }
 
-bounded_play : (wiring : Parts) (state : State) (task : Task) (place : ℕ) (play : Play) (posts : List Sent) (reply : Reply) → IsBounded state → IsBounded (after_play wiring state task place play posts reply)
-bounded_play wiring state task place play [] reply is = bounded_end wiring state task play.end is
-bounded_play wiring state task place play (sent ∷ posts) replies.Done is = record { spots = is.spots; domains = is.domains }
-bounded_play wiring state task place play (sent ∷ posts) (replies.Got m) is = record { spots = is.spots; domains = is.domains }
-bounded_play wiring state task place play (sent ∷ posts) (replies.Busy t) is = record { spots = is.spots; domains = is.domains }
-bounded_play wiring state task place play (sent ∷ posts) (replies.Short n) is = record { spots = is.spots; domains = is.domains }
-bounded_play wiring state task place play (sent ∷ posts) (replies.Fired t cuts) is = record { spots = is.spots; domains = is.domains }
-bounded_play wiring state task place play (sent ∷ posts) (replies.Dead by) is = record { spots = is.spots; domains = is.domains }
-bounded_play wiring state task place play (sent ∷ posts) (replies.Admitted t) is = record { spots = is.spots; domains = is.domains }
-bounded_play wiring state task place play (sent ∷ posts) replies.Booked is = record { spots = is.spots; domains = is.domains }
-bounded_play wiring state task place play (sent ∷ posts) (replies.Full n) is = record { spots = is.spots; domains = is.domains }
-bounded_play wiring state task place play (sent ∷ posts) (replies.Dropped t) is = record { spots = is.spots; domains = is.domains }
-bounded_play wiring state task place play (sent ∷ posts) (replies.Taken t) is = record { spots = is.spots; domains = is.domains }
-bounded_play wiring state task place play (sent ∷ posts) (replies.Drawn n) is = record { spots = is.spots; domains = is.domains }
-bounded_play wiring state task place play (sent ∷ posts) replies.Spent is = record { spots = is.spots; domains = is.domains }
-bounded_play wiring state task place play (sent ∷ posts) (replies.Left n) is = record { spots = is.spots; domains = is.domains }
+bounded_play : (wiring : Parts) (state : State) (task : Task) (index : ℕ) (play : Play) (posts : List Sent) (reply : Reply) → IsBounded state → IsBounded (after_play wiring state task index play posts reply)
+bounded_play wiring state task index play [] reply is = bounded_end wiring state task play.end is
+bounded_play wiring state task index play (sent ∷ posts) replies.Done is = record { spots = is.spots; domains = is.domains }
+bounded_play wiring state task index play (sent ∷ posts) (replies.Got m) is = record { spots = is.spots; domains = is.domains }
+bounded_play wiring state task index play (sent ∷ posts) (replies.Busy t) is = record { spots = is.spots; domains = is.domains }
+bounded_play wiring state task index play (sent ∷ posts) (replies.Short n) is = record { spots = is.spots; domains = is.domains }
+bounded_play wiring state task index play (sent ∷ posts) (replies.Fired t cuts) is = record { spots = is.spots; domains = is.domains }
+bounded_play wiring state task index play (sent ∷ posts) (replies.Dead by) is = record { spots = is.spots; domains = is.domains }
+bounded_play wiring state task index play (sent ∷ posts) (replies.Admitted t) is = record { spots = is.spots; domains = is.domains }
+bounded_play wiring state task index play (sent ∷ posts) replies.Booked is = record { spots = is.spots; domains = is.domains }
+bounded_play wiring state task index play (sent ∷ posts) (replies.Full n) is = record { spots = is.spots; domains = is.domains }
+bounded_play wiring state task index play (sent ∷ posts) (replies.Dropped t) is = record { spots = is.spots; domains = is.domains }
+bounded_play wiring state task index play (sent ∷ posts) (replies.Taken t) is = record { spots = is.spots; domains = is.domains }
+bounded_play wiring state task index play (sent ∷ posts) (replies.Drawn n) is = record { spots = is.spots; domains = is.domains }
+bounded_play wiring state task index play (sent ∷ posts) replies.Spent is = record { spots = is.spots; domains = is.domains }
+bounded_play wiring state task index play (sent ∷ posts) (replies.Left n) is = record { spots = is.spots; domains = is.domains }
 
-bounded_line : (wiring : Parts) (state : State) (place : ℕ) (sents : List Sent) → IsBounded state → IsBounded (after_line wiring state place sents)
-bounded_line wiring state place [] is = record { spots = is.spots; domains = is.domains }
-bounded_line wiring state place (sent ∷ sents) is = record { spots = none-fired _; domains = is.domains }
+bounded_line : (wiring : Parts) (state : State) (index : ℕ) (sents : List Sent) → IsBounded state → IsBounded (after_line wiring state index sents)
+bounded_line wiring state index [] is = record { spots = is.spots; domains = is.domains }
+bounded_line wiring state index (sent ∷ sents) is = record { spots = none-fired _; domains = is.domains }
 
 bounded_round : (wiring : Parts) (state : State) (reply : Reply) → IsBounded state → IsBounded (after_round wiring state reply)
 bounded_round wiring state replies.Done is = is
@@ -149,11 +149,11 @@ bounded_round wiring state replies.Spent is = is
 bounded_round wiring state (replies.Left n) is = bounded_from wiring state n 0 wiring.queues is
 
 bounded_work : (wiring : Parts) (state : State) (work : Work) (reply : Reply) → IsBounded state → IsBounded (after_work wiring state work reply)
-bounded_work wiring state (lines place sents) reply is = bounded_line wiring state place sents is
+bounded_work wiring state (lines index sents) reply is = bounded_line wiring state index sents is
 bounded_work wiring state round reply is = bounded_round wiring state reply is
 bounded_work wiring state (taking left queue more) reply is = bounded_take wiring state left queue more reply is
-bounded_work wiring state (playing task place play) reply is = bounded_play wiring state task place play play.posts reply is
-bounded_work wiring state (posting task place play sent) reply is = record { spots = none-fired _; domains = is.domains }
+bounded_work wiring state (playing task index play) reply is = bounded_play wiring state task index play play.posts reply is
+bounded_work wiring state (posting task index play sent) reply is = record { spots = none-fired _; domains = is.domains }
 bounded_work wiring state (shedding task) reply is = record { spots = is.spots; domains = none-admitted _ }
 bounded_work wiring state resting reply is = is
 
@@ -164,7 +164,7 @@ left-few false spots spot more count is few = cc is
 
 bounded_in : (wiring : Parts) (actor : ℕ) (state : State) (t : Turn) (reply : Reply) → IsTurnOf state t → IsBounded state → IsBounded (after_in wiring actor state t reply)
 bounded_in wiring actor state (settle one more) reply goes is = bounded_settled wiring state more reply is
-bounded_in wiring actor state (admit arbiter more) reply goes is = bounded_admit state more reply (below state.domains arbiter more state.admitted goes.2 is.domains) is
+bounded_in wiring actor state (admit domain more) reply goes is = bounded_admit state more reply (below state.domains domain more state.admitted goes.2 is.domains) is
 bounded_in wiring actor state (drive spot more) reply goes is = bounded_attempt wiring actor state spot more reply (left-few (nat_lt state.attempt (2 ^ 32)) state.spots spot more state.fired goes.3 is.spots) is
 bounded_in wiring actor state go_on reply goes is = bounded_work wiring state state.work reply is
 bounded_in wiring actor state stop reply goes is = is

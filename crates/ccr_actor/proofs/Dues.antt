@@ -18,7 +18,7 @@ asks_of (Some one) place ask is =
 
 due_same : (part : Turn) (one : Asked) → due_in (asking_by part one.ask) ≡ due_of one.ask
 due_same (settle first more) one = refl
-due_same (admit arbiter more) one = refl
+due_same (admit domain more) one = refl
 due_same (drive spot more) one = refl
 due_same go_on one = refl
 due_same stop one = refl

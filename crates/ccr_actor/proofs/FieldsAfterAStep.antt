@@ -1,9 +1,10 @@
 -- What holds of the fields of an actor, before and after a step.
-use Rattle.std.proofs.Common.{◌≡◌, ◌⊎◌, ℕ, Bool, true, false, [], Option, Some, None, Result, Ok, Err, refl, sym, ap, subst, inl, inr, ◌∙◌, ◌^◌, cond, arith, Bor}
+use Rattle.std.proofs.Common.{◌≡◌, ◌⊎◌, ℕ, true, false, [], Option, Some, None, Result, Ok, Err, refl, sym, ap, subst, inl, inr, ◌∙◌, ◌^◌, cond, arith, Bor}
 use Rattle.std.specs.Prelude.{nat_lt, OnErr, IsErr}
 use Rattle.std.proofs.lemmas.Bool.Decides.{nat_tests}
 use Rattle.ccr_claim.specs.Attempts.{booking}
 use Rattle.ccr_base.specs.declared.list.OutOfMemory.{OutOfMemory}
+use Rattle.ccr_base.proofs.Booleans.{no_both}
 use Rattle.ccr_wiring.specs.declared.parts.Parts.{Parts}
 use Rattle.std.specs.Option.{option_map}
 use Rattle.ccr_claim.specs.declared.asks.Asked.{Asked}
@@ -20,7 +21,7 @@ use Rattle.ccr_actor.specs.declared.work.Work.{Work as Works}
 use Rattle.ccr_actor.specs.declared.work.Work.TheVariants as works
 use Rattle.ccr_actor.specs.Inside.{work_of}
 use Rattle.ccr_actor.specs.Within.{IsPaced, IsWithin}
-use Rattle.ccr_actor.specs.Courses.{IsAsked, IsBeside, IsBounded, IsCounted, IsReached, IsReady, IsHeld, IsPast, IsShortened, IsUnderWay, phase_of, IsSettlingDue, IsStep, IsUnanswered, asking_at, asking_by, asking_in, due_at, seen, state_of, target}
+use Rattle.ccr_actor.specs.Courses.{IsAsked, IsBeside, IsBounded, IsCounted, IsReached, IsReady, IsSound, IsPast, IsShortened, IsUnderWay, phase_of, IsSettlingDue, IsStep, IsUnanswered, asking_at, asking_by, asking_in, due_at, seen, state_of, target}
 use Rattle.ccr_actor.proofs.WhatCountsIsKept.{kept_asked, kept_asking, kept_sent, kept_whole, kept_short, kept_settled, settled_short, after_short}
 use Rattle.ccr_actor.proofs.StepsOfAttempts.{past_phase, first_spot}
 use Rattle.ccr_actor.proofs.Bounds.{bounded_after, bounded_settled}
@@ -120,19 +121,16 @@ whole-bounded new wanted long same is =
     let also : wanted.is_short ≡ false = sym (kept_short wanted) ∙ (sym (ap (λ (s : State). s.is_short) same) ∙ (kept_short new ∙ long)) in
     subst IsBounded (sym (sym (kept_whole new long) ∙ (same ∙ kept_whole wanted also))) is
 
-not-both : {A : Type 0} (b : Bool) → b ≡ true → b ≡ false → A
-not-both b one two = absurd (cc (sym one ∙ two))
-
 pub bounded_still : (part : Part) (wiring : Parts) (actor : ℕ) (old new : State) (answer : MaybeReply) → new.is_short ≡ false → (old.is_short ≡ false → IsBounded old)
     → (kept new ≡ kept (target part wiring actor old answer)) ⊎ (((target part wiring actor old answer).is_short ≡ false) × (kept new ≡ kept (shorten wiring actor (target part wiring actor old answer)))) → IsBounded new
 bounded_still part wiring actor old new answer long bounded (inl same) =
     let before : old.is_short ≡ false = sym (target_short part wiring actor old answer) ∙ (sym (kept_short (target part wiring actor old answer)) ∙ (sym (ap (λ (s : State). s.is_short) same) ∙ (kept_short new ∙ long))) in
     whole-bounded new (target part wiring actor old answer) long same (target-bounded part wiring actor old answer (bounded before))
-bounded_still part wiring actor old new answer long bounded (inr short) = not-both new.is_short (sym (kept_short new) ∙ ap (λ (s : State). s.is_short) short.1) long
+bounded_still part wiring actor old new answer long bounded (inr short) = absurd (no_both (sym (kept_short new) ∙ ap (λ (s : State). s.is_short) short.1) long)
 
 pub bounded_sent : (state : State) (t : Turn) → IsBounded state → IsBounded (sent_state state t)
 bounded_sent state (settle one more) is = record { spots = is.spots; domains = is.domains }
-bounded_sent state (admit arbiter more) is = is
+bounded_sent state (admit domain more) is = is
 bounded_sent state (drive spot more) is = is
 bounded_sent state go_on is = record { spots = is.spots; domains = is.domains }
 bounded_sent state stop is = is
@@ -178,10 +176,10 @@ booked course (inr way) none =
     let left : nat_lt course.count (2 ^ 32) ≡ true = grind (arith, nat_tests, way.count) in
     cc (sym first.2 ∙ (sym (ap (λ b. cond b course.spots []) left) ∙ none))
 
-pub within : (course : Course) → IsHeld course None → (kept (state_of course)).is_short ≡ false → IsWithin (kept (state_of course))
-within course held long =
+pub within : (course : Course) → IsSound course None → (kept (state_of course)).is_short ≡ false → IsWithin (kept (state_of course))
+within course sound long =
     let short : course.short ≡ false = sym (kept_short (state_of course)) ∙ long in
-    subst IsWithin (sym (kept_whole (state_of course) short)) (record { bounded = held.bounded short; paced = paced course.work course.taken course.empty (held.counted short); driven = booked course held.asked.0.attempt })
+    subst IsWithin (sym (kept_whole (state_of course) short)) (record { bounded = sound.bounded short; paced = paced course.work course.taken course.empty (sound.counted short); driven = booked course sound.asked.0.attempt })
 
 -- ---- once the next ask is made
 
@@ -207,27 +205,27 @@ sent_seen old new taken wiring number state asking =
 pub next_asks : (old : Course) (one : Option Asked) → one ≡ asked old.wiring.now old.number (state_of old) → option_map pair_of one ≡ option_map pair_of (next (seen old None))
 next_asks old one is = ap (option_map pair_of) (is ∙ sym (kept_asked old.wiring.now old.number (state_of old)))
 
-pub next_held : (old new : Course) (taken : Option (Part × Asked)) → IsHeld old None → new.wiring ≡ old.wiring → new.short ≡ old.short → state_of new ≡ sent_state (state_of old) (turn (state_of old))
-    → IsUnanswered new (unanswered_by taken) → (new.short ≡ false → IsCounted new.work new.taken new.empty) → IsHeld new (unanswered_by taken)
-next_held old new taken held wiring short state asked counted = record {
-  valid = rw (wiring) held.valid;
+pub next_sound : (old new : Course) (taken : Option (Part × Asked)) → IsSound old None → new.wiring ≡ old.wiring → new.short ≡ old.short → state_of new ≡ sent_state (state_of old) (turn (state_of old))
+    → IsUnanswered new (unanswered_by taken) → (new.short ≡ false → IsCounted new.work new.taken new.empty) → IsSound new (unanswered_by taken)
+next_sound old new taken sound wiring short state asked counted = record {
+  valid = rw (wiring) sound.valid;
   asked = asked;
   counted = counted;
-  bounded = λ long. subst IsBounded (sym state) (bounded_sent (state_of old) (turn (state_of old)) (held.bounded (sym short ∙ long)));
+  bounded = λ long. subst IsBounded (sym state) (bounded_sent (state_of old) (turn (state_of old)) (sound.bounded (sym short ∙ long)));
 }
 
 -- no ask is unanswered where contracts see none
 nothing : (course : Course) (unanswered : Option (Part × Due)) (a : Acting) → seen course unanswered ≡ a → a.asking ≡ quiet → unanswered ≡ None
 nothing course unanswered a view is = none_asked unanswered (ap (λ (x : Acting). x.asking) view ∙ is)
 
-pub held_none : (course : Course) (unanswered : Option (Part × Due)) (a : Acting) → IsHeld course unanswered → seen course unanswered ≡ a → a.asking ≡ quiet → IsHeld course None
-held_none course unanswered a held view is = subst (IsHeld course) (nothing course unanswered a view is) held
+pub sound_none : (course : Course) (unanswered : Option (Part × Due)) (a : Acting) → IsSound course unanswered → seen course unanswered ≡ a → a.asking ≡ quiet → IsSound course None
+sound_none course unanswered a sound view is = subst (IsSound course) (nothing course unanswered a view is) sound
 
 pub seen_none : (course : Course) (unanswered : Option (Part × Due)) (a : Acting) → seen course unanswered ≡ a → a.asking ≡ quiet → seen course None ≡ a
 seen_none course unanswered a view is = subst (λ u. seen course u ≡ a) (nothing course unanswered a view is) view
 
-pub still_none : (course new : Course) (unanswered : Option (Part × Due)) (a : Acting) → seen course unanswered ≡ a → a.asking ≡ quiet → IsHeld new None → IsHeld new unanswered
-still_none course new unanswered a view is held = subst (IsHeld new) (sym (nothing course unanswered a view is)) held
+pub still_none : (course new : Course) (unanswered : Option (Part × Due)) (a : Acting) → seen course unanswered ≡ a → a.asking ≡ quiet → IsSound new None → IsSound new unanswered
+still_none course new unanswered a view is sound = subst (IsSound new) (sym (nothing course unanswered a view is)) sound
 
 -- ---- once it is answered
 
@@ -273,11 +271,11 @@ got_after made old mid new part due (Err e) asked may beside step refused finish
     let long = long_refused old part due asked may in
     acted_short old new part due e long (finished.same.0 ∙ beside.wiring) (finished.same.1 ∙ beside.number) (refused-so made old mid new part e refused long beside step finished)
 
-pub got_held : {E : Type 0} (made : Result E OutOfMemory) (old mid new : Course) (unanswered : Option (Part × Due)) (part : Part) (answer : MaybeReply) → IsHeld old unanswered → IsBeside old mid → IsStep made old.wiring.now old.number (target part old.wiring.now old.number (state_of old) answer) (state_of mid)
-    → IsFinished made mid new → IsReady new → due_at new.attempt ≡ dues.Nothing → (new.short ≡ false → IsCounted new.work new.taken new.empty) → IsHeld new None
-got_held made old mid new unanswered part answer held beside step finished ready idle counted = record {
-  valid = rw (finished.same.0, beside.wiring) held.valid;
+pub got_sound : {E : Type 0} (made : Result E OutOfMemory) (old mid new : Course) (unanswered : Option (Part × Due)) (part : Part) (answer : MaybeReply) → IsSound old unanswered → IsBeside old mid → IsStep made old.wiring.now old.number (target part old.wiring.now old.number (state_of old) answer) (state_of mid)
+    → IsFinished made mid new → IsReady new → due_at new.attempt ≡ dues.Nothing → (new.short ≡ false → IsCounted new.work new.taken new.empty) → IsSound new None
+got_sound made old mid new unanswered part answer sound beside step finished ready idle counted = record {
+  valid = rw (finished.same.0, beside.wiring) sound.valid;
   asked = (ready, idle);
   counted = counted;
-  bounded = λ long. bounded_still part old.wiring.now old.number (state_of old) (state_of new) answer long held.bounded (reached_so made old mid new part answer beside step finished);
+  bounded = λ long. bounded_still part old.wiring.now old.number (state_of old) (state_of new) answer long sound.bounded (reached_so made old mid new part answer beside step finished);
 }

@@ -100,26 +100,26 @@ end-same wiring state task plays.Done = refl
 end-same wiring state task (plays.Failed value) = refl
 end-same wiring state task (plays.Yield site) = refl
 
-line-same : (wiring : Parts) (state : State) (place : ℕ) (sents : List Sent) → (after_line wiring state place sents).hand ≡ state.hand
-line-same wiring state place [] = refl
-line-same wiring state place (sent ∷ sents) = refl
+line-same : (wiring : Parts) (state : State) (index : ℕ) (sents : List Sent) → (after_line wiring state index sents).hand ≡ state.hand
+line-same wiring state index [] = refl
+line-same wiring state index (sent ∷ sents) = refl
 
-pub play-same : (wiring : Parts) (state : State) (task : Task) (place : ℕ) (play : Play) (posts : List Sent) (reply : Reply) → (after_play wiring state task place play posts reply).hand ≡ state.hand
-play-same wiring state task place play [] reply = end-same wiring state task play.end
-play-same wiring state task place play (sent ∷ posts) replies.Done = refl
-play-same wiring state task place play (sent ∷ posts) (replies.Got m) = refl
-play-same wiring state task place play (sent ∷ posts) (replies.Busy t) = refl
-play-same wiring state task place play (sent ∷ posts) (replies.Short n) = refl
-play-same wiring state task place play (sent ∷ posts) (replies.Fired t cuts) = refl
-play-same wiring state task place play (sent ∷ posts) (replies.Dead by) = refl
-play-same wiring state task place play (sent ∷ posts) (replies.Admitted t) = refl
-play-same wiring state task place play (sent ∷ posts) replies.Booked = refl
-play-same wiring state task place play (sent ∷ posts) (replies.Full n) = refl
-play-same wiring state task place play (sent ∷ posts) (replies.Dropped d) = refl
-play-same wiring state task place play (sent ∷ posts) (replies.Taken t) = refl
-play-same wiring state task place play (sent ∷ posts) (replies.Drawn n) = refl
-play-same wiring state task place play (sent ∷ posts) replies.Spent = refl
-play-same wiring state task place play (sent ∷ posts) (replies.Left n) = refl
+pub play-same : (wiring : Parts) (state : State) (task : Task) (index : ℕ) (play : Play) (posts : List Sent) (reply : Reply) → (after_play wiring state task index play posts reply).hand ≡ state.hand
+play-same wiring state task index play [] reply = end-same wiring state task play.end
+play-same wiring state task index play (sent ∷ posts) replies.Done = refl
+play-same wiring state task index play (sent ∷ posts) (replies.Got m) = refl
+play-same wiring state task index play (sent ∷ posts) (replies.Busy t) = refl
+play-same wiring state task index play (sent ∷ posts) (replies.Short n) = refl
+play-same wiring state task index play (sent ∷ posts) (replies.Fired t cuts) = refl
+play-same wiring state task index play (sent ∷ posts) (replies.Dead by) = refl
+play-same wiring state task index play (sent ∷ posts) (replies.Admitted t) = refl
+play-same wiring state task index play (sent ∷ posts) replies.Booked = refl
+play-same wiring state task index play (sent ∷ posts) (replies.Full n) = refl
+play-same wiring state task index play (sent ∷ posts) (replies.Dropped d) = refl
+play-same wiring state task index play (sent ∷ posts) (replies.Taken t) = refl
+play-same wiring state task index play (sent ∷ posts) (replies.Drawn n) = refl
+play-same wiring state task index play (sent ∷ posts) replies.Spent = refl
+play-same wiring state task index play (sent ∷ posts) (replies.Left n) = refl
 
 round-same : (wiring : Parts) (state : State) (reply : Reply) → (after_round wiring state reply).hand ≡ state.hand
 round-same wiring state replies.Done = refl
@@ -155,17 +155,17 @@ taking-same wiring state left queue more replies.Spent = take-same wiring state 
 taking-same wiring state left queue more (replies.Left n) = take-same wiring state left (queue + 1) more
 
 pub work-same : (wiring : Parts) (state : State) (work : Work) (reply : Reply) → (after_work wiring state work reply).hand ≡ state.hand
-work-same wiring state (lines place sents) reply = line-same wiring state place sents
+work-same wiring state (lines index sents) reply = line-same wiring state index sents
 work-same wiring state round reply = round-same wiring state reply
 work-same wiring state (taking left queue more) reply = taking-same wiring state left queue more reply
-work-same wiring state (playing task place play) reply = play-same wiring state task place play play.posts reply
-work-same wiring state (posting task place play sent) reply = refl
+work-same wiring state (playing task index play) reply = play-same wiring state task index play play.posts reply
+work-same wiring state (posting task index play sent) reply = refl
 work-same wiring state (shedding task) reply = refl
 work-same wiring state resting reply = refl
 
 in-settles : (wiring : Parts) (actor : ℕ) (state : State) (t : Turn) (reply : Reply) → IsTurnOf state t → AreSettling state.hand → AreSettling (after_in wiring actor state t reply).hand
 in-settles wiring actor state (settle one more) reply is all = settled-settles wiring state more reply ((subst AreSettling is all).1)
-in-settles wiring actor state (admit arbiter more) reply is all = strike-settles wiring state more reply all
+in-settles wiring actor state (admit domain more) reply is all = strike-settles wiring state more reply all
 in-settles wiring actor state (drive spot more) reply is all = attempt-settles wiring actor state spot more reply all
 in-settles wiring actor state go_on reply is all = subst AreSettling (sym (work-same wiring state state.work reply)) all
 in-settles wiring actor state stop reply is all = all

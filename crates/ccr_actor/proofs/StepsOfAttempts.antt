@@ -28,6 +28,11 @@ none-owed wiring actor state (spot ∷ more) is = rw is refl
 pub owed-hand : (wiring : Parts) (actor : ℕ) (state : State) → state.phase ≡ booking → owed wiring actor state ≡ state.hand
 owed-hand wiring actor state is = rw (none-owed wiring actor state state.spots is) (append-nil state.hand)
 
+-- two states in one phase of one attempt owe alike for it
+pub same-attempt : (wiring : Parts) (actor : ℕ) (one two : State) (spots : List Spot) → one.phase ≡ two.phase → one.attempt ≡ two.attempt → in_attempt wiring actor one spots ≡ in_attempt wiring actor two spots
+same-attempt wiring actor one two [] phase attempt = refl
+same-attempt wiring actor one two (spot ∷ more) phase attempt = rw (phase, attempt) refl
+
 -- a step that reaches this state, or has its hand
 pub ends : {E : Type 0} (result : Result E OutOfMemory) (wiring : Parts) (actor : ℕ) (target wanted new : State) → target ≡ wanted → wanted.phase ≡ booking → OnOk result (new ≡ wanted) → OnErr result (new.hand ≡ wanted.hand) → IsStep result wiring actor target new
 ends (Ok done) wiring actor target wanted new is phase ok err = ap kept (ok ∙ sym is)

@@ -65,7 +65,7 @@ kept_asking wiring actor state = asking-when state.is_short wiring actor state r
 
 pub sent_short : (state : State) (t : Turn) → (sent_state state t).is_short ≡ state.is_short
 sent_short state (settle one more) = refl
-sent_short state (admit arbiter more) = refl
+sent_short state (admit domain more) = refl
 sent_short state (drive spot more) = refl
 sent_short state go_on = refl
 sent_short state stop = refl
@@ -159,26 +159,26 @@ end-short wiring state task plays.Done = refl
 end-short wiring state task (plays.Failed value) = refl
 end-short wiring state task (plays.Yield site) = refl
 
-play-short : (wiring : Parts) (state : State) (task : Task) (place : ℕ) (play : Play) (posts : List Sent) (reply : Reply) → (after_play wiring state task place play posts reply).is_short ≡ state.is_short
-play-short wiring state task place play [] reply = end-short wiring state task play.end
-play-short wiring state task place play (sent ∷ posts) replies.Done = refl
-play-short wiring state task place play (sent ∷ posts) (replies.Got m) = refl
-play-short wiring state task place play (sent ∷ posts) (replies.Busy t) = refl
-play-short wiring state task place play (sent ∷ posts) (replies.Short n) = refl
-play-short wiring state task place play (sent ∷ posts) (replies.Fired t cuts) = refl
-play-short wiring state task place play (sent ∷ posts) (replies.Dead by) = refl
-play-short wiring state task place play (sent ∷ posts) (replies.Admitted t) = refl
-play-short wiring state task place play (sent ∷ posts) replies.Booked = refl
-play-short wiring state task place play (sent ∷ posts) (replies.Full n) = refl
-play-short wiring state task place play (sent ∷ posts) (replies.Dropped d) = refl
-play-short wiring state task place play (sent ∷ posts) (replies.Taken t) = refl
-play-short wiring state task place play (sent ∷ posts) (replies.Drawn n) = refl
-play-short wiring state task place play (sent ∷ posts) replies.Spent = refl
-play-short wiring state task place play (sent ∷ posts) (replies.Left n) = refl
+play-short : (wiring : Parts) (state : State) (task : Task) (index : ℕ) (play : Play) (posts : List Sent) (reply : Reply) → (after_play wiring state task index play posts reply).is_short ≡ state.is_short
+play-short wiring state task index play [] reply = end-short wiring state task play.end
+play-short wiring state task index play (sent ∷ posts) replies.Done = refl
+play-short wiring state task index play (sent ∷ posts) (replies.Got m) = refl
+play-short wiring state task index play (sent ∷ posts) (replies.Busy t) = refl
+play-short wiring state task index play (sent ∷ posts) (replies.Short n) = refl
+play-short wiring state task index play (sent ∷ posts) (replies.Fired t cuts) = refl
+play-short wiring state task index play (sent ∷ posts) (replies.Dead by) = refl
+play-short wiring state task index play (sent ∷ posts) (replies.Admitted t) = refl
+play-short wiring state task index play (sent ∷ posts) replies.Booked = refl
+play-short wiring state task index play (sent ∷ posts) (replies.Full n) = refl
+play-short wiring state task index play (sent ∷ posts) (replies.Dropped d) = refl
+play-short wiring state task index play (sent ∷ posts) (replies.Taken t) = refl
+play-short wiring state task index play (sent ∷ posts) (replies.Drawn n) = refl
+play-short wiring state task index play (sent ∷ posts) replies.Spent = refl
+play-short wiring state task index play (sent ∷ posts) (replies.Left n) = refl
 
-line-short : (wiring : Parts) (state : State) (place : ℕ) (sents : List Sent) → (after_line wiring state place sents).is_short ≡ state.is_short
-line-short wiring state place [] = refl
-line-short wiring state place (sent ∷ sents) = refl
+line-short : (wiring : Parts) (state : State) (index : ℕ) (sents : List Sent) → (after_line wiring state index sents).is_short ≡ state.is_short
+line-short wiring state index [] = refl
+line-short wiring state index (sent ∷ sents) = refl
 
 round-short : (wiring : Parts) (state : State) (reply : Reply) → (after_round wiring state reply).is_short ≡ state.is_short
 round-short wiring state replies.Done = refl
@@ -197,17 +197,17 @@ round-short wiring state replies.Spent = refl
 round-short wiring state (replies.Left n) = from-short wiring state n 0 wiring.queues
 
 work-short : (wiring : Parts) (state : State) (work : Work) (reply : Reply) → (after_work wiring state work reply).is_short ≡ state.is_short
-work-short wiring state (lines place sents) reply = line-short wiring state place sents
+work-short wiring state (lines index sents) reply = line-short wiring state index sents
 work-short wiring state round reply = round-short wiring state reply
 work-short wiring state (taking left queue more) reply = take-short wiring state left queue more reply
-work-short wiring state (playing task place play) reply = play-short wiring state task place play play.posts reply
-work-short wiring state (posting task place play sent) reply = refl
+work-short wiring state (playing task index play) reply = play-short wiring state task index play play.posts reply
+work-short wiring state (posting task index play sent) reply = refl
 work-short wiring state (shedding task) reply = refl
 work-short wiring state resting reply = refl
 
 in-short : (wiring : Parts) (actor : ℕ) (state : State) (t : Turn) (reply : Reply) → (after_in wiring actor state t reply).is_short ≡ state.is_short
 in-short wiring actor state (settle one more) reply = settled_short wiring state more reply
-in-short wiring actor state (admit arbiter more) reply = admit-short state more reply
+in-short wiring actor state (admit domain more) reply = admit-short state more reply
 in-short wiring actor state (drive spot more) reply = attempt-short wiring actor state spot more reply
 in-short wiring actor state go_on reply = work-short wiring state state.work reply
 in-short wiring actor state stop reply = refl

@@ -138,13 +138,13 @@ asked wiring actor state = ask_in wiring actor state (turn state)
 
 -- ---- the state after a reply
 
--- the Interleave, where it isn't in the list
-abbrev pub add_arbiter : Parts → ℕ → List ℕ → List ℕ
-add_arbiter wiring arbiter domains = if is_interleave_number wiring arbiter && not (list_any (λ other. other == arbiter) domains) then domains ++ arbiter ∷ [] else domains
+-- the domain, where it is one of Interleaves and isn't in the list
+abbrev pub add_domain : Parts → ℕ → List ℕ → List ℕ
+add_domain wiring domain domains = if is_interleave_number wiring domain && not (list_any (λ other. other == domain) domains) then domains ++ domain ∷ [] else domains
 
 -- the Interleave of a dropped task, unless the run of admissions has reached its bound
 abbrev pub admit_too : Parts → State → Task → List ℕ
-admit_too wiring state task = if nat_lt state.admitted most_admitted then add_arbiter wiring task.arbiter state.domains else state.domains
+admit_too wiring state task = if nat_lt state.admitted most_admitted then add_domain wiring task.arbiter state.domains else state.domains
 
 -- a dropped task is noted over at once, and admissions follow at its Interleave
 abbrev pub dropping : Parts → State → Task → State
@@ -234,7 +234,7 @@ next_round taken = if nat_lt taken most_taken then round else resting
 
 -- the work goes on, and the domain of the root is asked for admissions
 abbrev pub after_over : Parts → State → Task → State
-after_over wiring state task = record state { work = next_round state.taken; domains = add_arbiter wiring task.arbiter state.domains; admitted = 0 }
+after_over wiring state task = record state { work = next_round state.taken; domains = add_domain wiring task.arbiter state.domains; admitted = 0 }
 
 -- a suspended task's site is driven; else the root was over
 abbrev pub after_end : Parts → State → Task → PlayEnd → State

@@ -377,7 +377,7 @@ IsUnanswered course None = IsReady course × (due_at course.attempt ≡ dues.Not
 IsUnanswered course (Some unanswered) = IsAsked course unanswered.0 unanswered.1 × (due_at course.attempt ≡ attempt_due unanswered.0 unanswered.1)
 
 -- what holds of the fields of an actor
-pub record IsHeld (course : Course) (unanswered : Option (Part × Due)) : Type 0 where
+pub record IsSound (course : Course) (unanswered : Option (Part × Due)) : Type 0 where
   pub valid : IsValid course.wiring.now
   pub asked : IsUnanswered course unanswered
   pub counted : course.short ≡ false → IsCounted course.work course.taken course.empty

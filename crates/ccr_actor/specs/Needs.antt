@@ -22,13 +22,13 @@ has_any (one ∷ more) = true
 
 -- ---- what is kept of a reply
 
--- whether the Interleave is added to the run of admissions
-abbrev pub adds_arbiter : Parts → ℕ → List ℕ → Bool
-adds_arbiter wiring arbiter domains = is_interleave_number wiring arbiter && not (list_any (λ other. other == arbiter) domains)
+-- whether the domain is added to the run of admissions
+abbrev pub adds_domain : Parts → ℕ → List ℕ → Bool
+adds_domain wiring domain domains = is_interleave_number wiring domain && not (list_any (λ other. other == domain) domains)
 
 -- that of a dropped task is, unless the run of admissions has reached its bound
 abbrev pub settling_needs : Parts → State → Reply → Bool
-settling_needs wiring state (replies.Dropped (Some task)) = nat_lt state.admitted most_admitted && adds_arbiter wiring task.arbiter state.domains
+settling_needs wiring state (replies.Dropped (Some task)) = nat_lt state.admitted most_admitted && adds_domain wiring task.arbiter state.domains
 settling_needs wiring state _ = false
 
 -- an attempt that runs on may make its commit ready; where a firing waits its domain is added
@@ -41,7 +41,7 @@ attempt_needs _ = false
 -- the site of a suspended task is to be driven; the Interleave of one that is over is added
 abbrev pub end_needs : Parts → State → Task → PlayEnd → Bool
 end_needs wiring state task (plays.Yield site) = true
-end_needs wiring state task _ = adds_arbiter wiring task.arbiter state.domains
+end_needs wiring state task _ = adds_domain wiring task.arbiter state.domains
 
 -- a draw needs none, the end of a play may
 abbrev pub play_needs : Parts → State → Task → PlayEnd → List Sent → Bool
@@ -65,7 +65,7 @@ work_needs wiring state round reply = false
 work_needs wiring state (taking left queue more) reply = take_needs reply
 work_needs wiring state (playing task index play) reply = play_needs wiring state task play.end play.posts
 work_needs wiring state (posting task index play sent) reply = has_any (spots_at wiring sent.port)
-work_needs wiring state (shedding task) reply = adds_arbiter wiring task.arbiter state.domains
+work_needs wiring state (shedding task) reply = adds_domain wiring task.arbiter state.domains
 work_needs wiring state resting reply = false
 
 -- what the turn whose reply it is keeps of it

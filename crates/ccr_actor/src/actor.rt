@@ -5,7 +5,7 @@ ghost use Rattle.std.specs.Option.{option_map};
 ghost use Rattle.ccr_wiring.specs.Valid.{IsValid};
 ghost use Rattle.ccr_claim.specs.Asks.{may_come};
 ghost use Rattle.ccr_actor.specs.Acting.{due_in, is_at_rest, next, pair_of, quiet, sent, started, IsAfter};
-ghost use Rattle.ccr_actor.specs.Courses.{seen, IsCounted, IsHeld};
+ghost use Rattle.ccr_actor.specs.Courses.{seen, IsCounted, IsSound};
 ghost use Rattle.ccr_actor.specs.Inside.{work_of};
 ghost use Rattle.ccr_actor.specs.Within.{IsWithin};
 ghost use Rattle.ccr_actor.specs.Needs.{needs_memory, next_needs, takes_unnumbered};
@@ -31,13 +31,13 @@ pub struct Actor<'w> {
 
 impl<'w> Model for Actor<'w> {
     ghost use Rattle.ccr_actor.specs.Acting.{Acting};
-    ghost use Rattle.ccr_actor.specs.Courses.{seen, IsHeld};
+    ghost use Rattle.ccr_actor.specs.Courses.{seen, IsSound};
 
     ghost Value = { Acting };
 
     ghost view = { λ a. seen a.course a.unanswered };
 
-    ghost invariant = { λ a. IsHeld a.course a.unanswered };
+    ghost invariant = { λ a. IsSound a.course a.unanswered };
 }
 
 impl<'w> Actor<'w> {

@@ -1,9 +1,9 @@
 //! Where an actor is in its course: what it has in hand, its admissions, its drive, and its work.
 
 ghost use Rattle.std.specs.Prelude.{◌≡◌, ◌<◌, ◌==◌, ◌&&◌, drop, not, IsTrue, OnOk, OnErr, None, Some, length};
-ghost use Rattle.ccr_actor.specs.Actors.{add_arbiter, after_admit, most_admitted};
+ghost use Rattle.ccr_actor.specs.Actors.{add_domain, after_admit, most_admitted};
 ghost use Rattle.ccr_actor.specs.Courses.{state_of, hand_of, IsBeside, IsIdle};
-ghost use Rattle.ccr_actor.specs.Needs.{adds_arbiter};
+ghost use Rattle.ccr_actor.specs.Needs.{adds_domain};
 
 use crate::driven::Driven;
 use crate::work::Work;
@@ -74,17 +74,17 @@ impl Course<'_> {
         }
     }
 
-    /// Adds the Interleave, where it isn't in the run of admissions.
-    pub fn add_arbiter(&mut self, arbiter: ArbiterNo) -> Result<(), OutOfMemory>
-        ensures ok { OnOk result (state_of self.new ≡ record (state_of self.old) { domains = add_arbiter self.old.wiring.now arbiter self.old.domains.items }) }
+    /// Adds the domain, where it is one of Interleaves and isn't in the run of admissions.
+    pub fn add_domain(&mut self, domain: ArbiterNo) -> Result<(), OutOfMemory>
+        ensures ok { OnOk result (state_of self.new ≡ record (state_of self.old) { domains = add_domain self.old.wiring.now domain self.old.domains.items }) }
         ensures err { OnErr result (state_of self.new ≡ state_of self.old) }
-        ensures needs { OnErr result (IsTrue (adds_arbiter self.old.wiring.now arbiter self.old.domains.items)) }
+        ensures needs { OnErr result (IsTrue (adds_domain self.old.wiring.now domain self.old.domains.items)) }
         ensures attempt { self.new.attempt ≡ self.old.attempt }
         ensures work { self.new.work ≡ self.old.work }
         ensures beside { IsBeside self.old self.new }
     {
-        if self.wiring.is_interleave_number(arbiter) && !self.domains.contains(&arbiter) {
-            self.domains.push_back(arbiter)?;
+        if self.wiring.is_interleave_number(domain) && !self.domains.contains(&domain) {
+            self.domains.push_back(domain)?;
         }
         Ok(())
     }

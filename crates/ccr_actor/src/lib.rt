@@ -2,10 +2,10 @@
 #![tactic(auto)]
 
 mod actor;
+mod actor_counts;
 mod answering;
 mod asking;
 mod attempting;
-mod cast;
 mod course;
 mod driven;
 mod driving;
@@ -19,6 +19,6 @@ mod work;
 mod working;
 
 pub use actor::Actor;
-pub use cast::actor_count;
+pub use actor_counts::{actor_count, are_below};
 pub use laws::{actors_follow, actors_settle};
 pub use net::Net;

@@ -9,7 +9,7 @@ ghost use Rattle.ccr_actor.specs.Inside.{due_taken};
 ghost use Rattle.ccr_actor.specs.Acting.{kept, settling};
 ghost use Rattle.ccr_actor.specs.Actors.{dropping, most_admitted, settled};
 ghost use Rattle.ccr_actor.specs.Courses.{asking_in, dropped_by, due_at, hand_of, phase_of, state_of, taken_due, IsBeside, IsIdle, IsPast, IsSettling, IsSettlingDue, IsStep, IsTold};
-ghost use Rattle.ccr_actor.specs.Needs.{adds_arbiter, settling_needs};
+ghost use Rattle.ccr_actor.specs.Needs.{adds_domain, settling_needs};
 
 use crate::attempting::{settle, take_hand};
 use crate::course::{Course, MOST, Part};
@@ -100,15 +100,15 @@ impl Course<'_> {
         ensures ok { OnOk result (kept (state_of self.new) ≡ kept (dropping self.old.wiring.now (state_of self.old) task)) }
         ensures err { OnErr result ((state_of self.new).hand ≡ over_dropped task ∷ (state_of self.old).hand) }
         ensures long { OnErr result (self.old.short ≡ false) }
-        ensures needs { OnErr result (IsTrue (nat_lt self.old.admitted most_admitted && adds_arbiter self.old.wiring.now task.arbiter self.old.domains.items)) }
+        ensures needs { OnErr result (IsTrue (nat_lt self.old.admitted most_admitted && adds_domain self.old.wiring.now task.arbiter self.old.domains.items)) }
         ensures attempt { self.new.attempt ≡ self.old.attempt }
         ensures work { self.new.work ≡ self.old.work }
         ensures beside { IsBeside self.old self.new }
     {
-        let arbiter = task.arbiter;
+        let domain = task.arbiter;
         self.dropped = Some(task);
         if !self.short && self.admitted < MOST {
-            self.add_arbiter(arbiter)?;
+            self.add_domain(domain)?;
         }
         Ok(())
     }

@@ -58,6 +58,7 @@ fn queue_of_spot(wiring: &Wiring, spot: Spot) -> QueueNo
 pub fn domain_of_spot(wiring: &Wiring, spot: Spot) -> ArbiterNo
     ensures { result ≡ domain_of_spot wiring.now spot }
 {
+    // `parts` says that the wiring is valid.
     let _valid = wiring.parts();
     match wiring.placement(branch_of(spot)) {
         Some(placement) => placement.domain as ArbiterNo,
@@ -103,15 +104,15 @@ fn begin(
     ensures { IfOk result (λ attempt. attempt ≡ begun (plan_of wiring.now spot) name) }
 {
     let queue = queue_of_spot(wiring, spot);
-    let arbiter = domain_of_spot(wiring, spot);
+    let domain = domain_of_spot(wiring, spot);
     match earlier {
-        Some(old) => Attempt::begin_in(old, spot, pattern, queue, arbiter, name),
+        Some(old) => Attempt::begin_in(old, spot, pattern, queue, domain, name),
         None => {
             let plan = ClaimPlan {
                 spot,
                 pattern: pattern.copy(alloc)?,
                 queue,
-                arbiter,
+                arbiter: domain,
             };
             Attempt::begin(alloc, plan, name)
         }

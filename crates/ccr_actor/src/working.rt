@@ -5,7 +5,7 @@ ghost use Rattle.ccr_base.specs.Bounds.{most_empty_rounds};
 ghost use Rattle.ccr_actor.specs.Actors.{after_end, after_line, after_over, after_play, after_posting, after_round, after_take, after_work, round, begin_play, most_taken, next_round, rest_or_round, shedding, take_from};
 ghost use Rattle.ccr_actor.specs.Courses.{state_of, IsBeside, IsCounted, IsPlayCounted, IsStep};
 ghost use Rattle.ccr_actor.specs.Inside.{play_of, work_of};
-ghost use Rattle.ccr_actor.specs.Needs.{adds_arbiter, end_needs, has_any, is_unnumbered, line_needs, play_needs, take_needs, take_unnumbered, work_needs, work_unnumbered};
+ghost use Rattle.ccr_actor.specs.Needs.{adds_domain, end_needs, has_any, is_unnumbered, line_needs, play_needs, take_needs, take_unnumbered, work_needs, work_unnumbered};
 ghost use Rattle.ccr_wiring.specs.Takers.{spots_at};
 ghost use Rattle.ccr_claim.specs.Attempts.{booking};
 ghost use Rattle.ccr_wiring.specs.Wirings.{segment_of};
@@ -144,13 +144,13 @@ impl<'w> Course<'w> {
         ensures ok { OnOk result (state_of self.new ≡ after_over self.old.wiring.now (state_of self.old) task.now) }
         ensures counted { OnOk result (IsCounted self.new.work self.new.taken self.new.empty) }
         ensures err { OnErr result ((state_of self.new).hand ≡ (state_of self.old).hand) }
-        ensures needs { OnErr result (IsTrue (adds_arbiter self.old.wiring.now task.now.arbiter self.old.domains.items)) }
+        ensures needs { OnErr result (IsTrue (adds_domain self.old.wiring.now task.now.arbiter self.old.domains.items)) }
         ensures attempt { self.new.attempt ≡ self.old.attempt }
         ensures beside { IsBeside self.old self.new }
     {
         self.next_round();
         self.admitted = 0;
-        self.add_arbiter(task.arbiter)
+        self.add_domain(task.arbiter)
     }
 
     /// The task was suspended at the site, which is driven, and a new round follows; or it is over.

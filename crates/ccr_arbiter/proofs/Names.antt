@@ -10,7 +10,7 @@ use Rattle.std.specs.List.{IsDistinct}
 use Rattle.std.proofs.Math.Bool.{or-false}
 use Rattle.ccr_base.specs.declared.names.TaskId.{TaskId}
 use Rattle.ccr_base.specs.Names.{same_task, has_task}
-use Rattle.ccr_arbiter.specs.Room.{AreAmong}
+use Rattle.ccr_arbiter.specs.Spare.{AreAmong}
 
 pub IsEquivalence-same_task : IsEquivalence same_task
 IsEquivalence-same_task = record {

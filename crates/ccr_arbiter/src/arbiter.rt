@@ -28,13 +28,13 @@ pub struct ArbiterObject {
 
 impl Model for ArbiterObject {
     ghost use Rattle.ccr_places.specs.Arbiters.{ArbiterState};
-    ghost use Rattle.ccr_arbiter.specs.Room.{HasRoom};
+    ghost use Rattle.ccr_arbiter.specs.Spare.{HasSpare};
 
     ghost Value = { ArbiterState };
 
     ghost view = { λ arbiter. record { first = arbiter.first; count = arbiter.count; once = arbiter.once; fired = arbiter.fired.keys; over = arbiter.over.keys } };
 
-    ghost invariant = { λ arbiter. HasRoom arbiter.fired arbiter.over };
+    ghost invariant = { λ arbiter. HasSpare arbiter.fired arbiter.over };
 }
 
 impl ArbiterObject {

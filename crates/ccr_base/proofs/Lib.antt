@@ -3,6 +3,6 @@ pub mod Options
 pub mod Filters
 pub mod Lists
 pub mod Texts
-pub mod Places
+pub mod Indices
 pub mod Chosen
 pub mod Loops

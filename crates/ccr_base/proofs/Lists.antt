@@ -1,6 +1,6 @@
 -- Of a list: what its prefix is, what each of it passes, what holds of each of it, what is made of it, and how long it is.
-use Rattle.std.proofs.Common.{◌≡◌, ℕ, suc, ◌<◌, Bool, true, false, List, [], ◌∷◌, ◌++◌, length, take, flat_map, ap, ◌∙◌, refl, arith, append-nil}
-use Rattle.std.specs.List.{All, list_all, list_any}
+use Rattle.std.proofs.Common.{◌≡◌, ℕ, zero, suc, ◌+◌, ◌<◌, Bool, true, false, List, [], ◌∷◌, ◌++◌, length, take, flat_map, Some, ap, ◌∙◌, refl, arith, append-nil}
+use Rattle.std.specs.List.{All, list_all, list_any, slice_get}
 use Rattle.std.proofs.Math.Seq.{take-append_seam}
 use Rattle.std.proofs.lemmas.Bool.{and_parts as both}
 use Rattle.ccr_base.specs.Lists.{Each}
@@ -10,6 +10,16 @@ use Rattle.std.proofs.lemmas.Grind.{flat_map-append}
 -- as many as the prefix is long are the prefix
 pub take_front : {X : Type 0} (xs ys : List X) (n : ℕ) → n ≡ length xs → take n (xs ++ ys) ≡ xs
 take_front xs ys n all = ap (λ m. take m (xs ++ ys)) all ∙ take-append_seam xs ys
+
+-- one more of a list than the first so many
+pub take_more : {X : Type 0} (xs : List X) (i : ℕ) (x : X) → slice_get xs i ≡ Some x → take (i + 1) xs ≡ take i xs ++ x ∷ []
+take_more [] i x at = absurd (cc)
+take_more (y ∷ xs) zero x at = let one : y ≡ x = cc in rw one (none xs)
+  where
+    none : (ys : List _) → x ∷ take 0 ys ≡ x ∷ []
+    none [] = refl
+    none (z ∷ ys) = refl
+take_more (y ∷ xs) (suc i) x at = let e : suc i + 1 ≡ suc (i + 1) = omega arith in rw e (ap (λ zs. y ∷ zs) (take_more xs i x at))
 
 -- one more at the end passes the test too
 pub all_more : {X : Type 0} (p : X → Bool) (xs : List X) (x : X) → list_all p xs ≡ true → p x ≡ true → list_all p (xs ++ x ∷ []) ≡ true

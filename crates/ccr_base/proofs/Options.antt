@@ -1,12 +1,22 @@
--- What is known of an option by what is made of it, and of a list by what stands at a place.
-use Rattle.std.proofs.Common.{◌≡◌, ℕ, zero, suc, ◌<◌, ◌≤◌, Bool, true, false, cond, List, [], ◌∷◌, ◌++◌, length, Option, Some, None, refl, arith}
-use Rattle.std.specs.Prelude.{option_map, option_and_then, IfSome}
+-- What is known of an option by what is made of it, and of a list by what stands at an index.
+use Rattle.std.proofs.Common.{◌≡◌, ◌⊎◌, inl, inr, ℕ, zero, suc, ◌<◌, ◌≤◌, Bool, true, false, not, cond, List, [], ◌∷◌, ◌++◌, length, Option, Some, None, refl, ap, arith}
+use Rattle.std.specs.Prelude.{is_some, option_map, option_and_then, IfSome}
 use Rattle.std.specs.List.{slice_get}
 use Rattle.std.specs.Option.{option_map_or, option_or}
 pub use Rattle.std.proofs.lemmas.Option.{slice_get_within as some-below}
 
 pub no_some : {X : Type 0} (o : Option X) (x : X) → o ≡ None → o ≡ Some x → ⊥
 no_some o x none is = absurd (cc)
+
+-- where it isn't so that there is something, there is nothing
+pub not_some : {X : Type 0} (o : Option X) → is_some o ≡ false → o ≡ None
+not_some None is = refl
+not_some (Some x) is = absurd (cc)
+
+-- the same, as a test says it
+pub none_is : {X : Type 0} (o : Option X) → not (is_some o) ≡ true → o ≡ None
+none_is None is = refl
+none_is (Some x) is = absurd (cc)
 
 -- a test that passes by an option had something there
 pub some_of : {X : Type 0} (f : X → Bool) (o : Option X) → option_map_or f o false ≡ true → (x : X) × (o ≡ Some x) × (f x ≡ true)
@@ -68,3 +78,14 @@ get-last {X = X} xs now n x long is = rw (is, long) (at xs)
     at : (ys : List X) → slice_get (ys ++ x ∷ []) (length ys) ≡ Some x
     at [] = refl
     at (y ∷ ys) = at ys
+
+-- an item of a list with one more is one of the list's, or the last
+pub get-push : {X : Type 0} (xs : List X) (x y : X) (k : ℕ) → slice_get (xs ++ x ∷ []) k ≡ Some y → (slice_get xs k ≡ Some y) ⊎ ((k ≡ length xs) × (x ≡ y))
+get-push [] x y zero at = inr (refl, cc)
+get-push [] x y (suc k) at = absurd (cc)
+get-push (z ∷ xs) x y zero at = inl at
+get-push (z ∷ xs) x y (suc k) at = of_either (get-push xs x y k at)
+  where
+    of_either : (slice_get xs k ≡ Some y) ⊎ ((k ≡ length xs) × (x ≡ y)) → (slice_get xs k ≡ Some y) ⊎ ((suc k ≡ suc (length xs)) × (x ≡ y))
+    of_either (inl there) = inl there
+    of_either (inr last) = inr (ap suc last.0, last.1)

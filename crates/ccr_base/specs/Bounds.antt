@@ -90,7 +90,7 @@ most_count = 1000
 abbrev pub most_policy : ℕ
 most_policy = 1000
 
--- in an expression, at most: the number of a message that the task took, and the place of a number in its value
+-- in an expression, at most: the number of a message that the task took, and the index of a number in its value
 abbrev pub most_arg : ℕ
 most_arg = 65535
 

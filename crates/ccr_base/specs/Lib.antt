@@ -1,7 +1,7 @@
 pub mod Names
 pub mod Values
 pub mod Padding
-pub mod Choice
+pub mod Selection
 pub mod Bounds
 pub mod Lists
 pub mod Groups

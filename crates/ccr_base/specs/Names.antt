@@ -12,7 +12,7 @@ use Rattle.ccr_base.specs.declared.messages.Msg.{Msg}
 abbrev pub same_task : TaskId → TaskId → Bool
 same_task s t = (s.actor == t.actor) && (s.attempt == t.attempt)
 
--- whether the two name one message: its maker and its place among that maker's posts
+-- whether the two name one message: its maker and its index among that maker's posts
 abbrev pub same_message : MsgId → MsgId → Bool
 same_message (Script a k) (Script b l) = (a == b) && (k == l)
 same_message (Task s i) (Task t j) = same_task s t && (i == j)

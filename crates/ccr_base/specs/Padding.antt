@@ -1,4 +1,4 @@
--- A list of at most 8 numbers in 8 places: zeros behind it.
+-- A list of at most 8 numbers, made 8 long: zeros behind it.
 use Rattle.std.specs.Prelude.{◌≡◌, ℕ, ◌-◌, ◌<◌, ◌≤◌, List, ◌++◌, length, take, drop, replicate}
 use Rattle.std.proofs.Common.{arith, take-append-drop, length-take-le}
 use Rattle.ccr_base.specs.Bounds.{most_value_numbers}

@@ -31,6 +31,13 @@ pub struct List<T> {
 /// The bytes of a name or of a word.
 pub type Name = List<u8>;
 
+/// The name with these bytes.
+pub fn name_of(alloc: Global, bytes: &[u8]) -> Result<Name, OutOfMemory>
+    ensures { IfOk result (λ name. name ≡ bytes.now) }
+{
+    Ok(List::from_vec(Vec::from_slice(alloc, bytes)?))
+}
+
 impl<T> Model for List<T> {
     ghost use Rattle.std.specs.Prelude.{List as Listed};
 

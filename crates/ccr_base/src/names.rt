@@ -25,7 +25,7 @@ pub struct TaskId {
     pub attempt: u32,
 }
 
-/// A message: a post (from 0) of a poster's script, or a post (from 0) of a task.
+/// A message: a post of a poster's script, or a post of a task. `place` is the index of that post, from 0.
 #[derive(Clone, Copy, PartialEq, Eq, PartialOrd, Ord, Hash)]
 pub enum MsgId {
     Script { actor: ActorNo, place: u32 },

@@ -1,7 +1,7 @@
 //! What a branch takes: slots with predicates, or a gather.
 
 ghost use Rattle.std.specs.Prelude.{◌≡◌, IfOk};
-ghost use Rattle.ccr_base.specs.Choice.{holds};
+ghost use Rattle.ccr_base.specs.Selection.{holds};
 
 use crate::{List, OutOfMemory, PortNo, Value};
 use std::alloc::Global;

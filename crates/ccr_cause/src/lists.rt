@@ -2,10 +2,9 @@
 
 ghost use Rattle.std.specs.Prelude.{◌≡◌, ◌<◌, length, Some, IfOk, IfSome, IfNone, OnOk, OnErr};
 ghost use Rattle.std.specs.List.{slice_get};
-ghost use Rattle.ccr_base.specs.Lists.{has_number};
 ghost use Rattle.ccr_cause.specs.Causes.{with_cause, without_cause, union};
 
-use ccr_base::{CauseNo, List, OutOfMemory};
+use ccr_base::{CauseNo, List, OutOfMemory, has_number};
 use std::alloc::Global;
 
 /// The first list, followed by the members of the second that it lacks, each once.
@@ -28,7 +27,7 @@ pub fn add(causes: &mut List<CauseNo>, cause: CauseNo) -> Result<(), OutOfMemory
     ensures ok { OnOk result (causes.new ≡ with_cause causes.old cause) }
     ensures err { OnErr result (causes.new ≡ causes.old) }
 {
-    if has_cause(causes.as_slice(), cause) {
+    if has_number(causes.as_slice(), cause) {
         return Ok(());
     }
     match causes.push(cause) {
@@ -45,12 +44,6 @@ pub fn remove(causes: &mut List<CauseNo>, cause: CauseNo)
     while let Some(index) = index_of(causes.as_slice(), cause) {
         causes.remove(index);
     }
-}
-
-fn has_cause(causes: &[CauseNo], cause: CauseNo) -> bool
-    ensures { result ≡ has_number causes.now cause }
-{
-    causes.iter().any(|other| *other == cause)
 }
 
 /// Where the cause stands first.

@@ -1,3 +1,3 @@
 pub mod JudgesStayJudges
-pub mod Places
+pub mod FirstRefusals
 pub mod EachEventWasAccepted

@@ -7,7 +7,7 @@ use Rattle.ccr_checker.specs.Quiet.{MeansQuiet}
 use Rattle.ccr_check.specs.declared.verdicts.Verdict.{Verdict}
 use Rattle.ccr_check.specs.declared.verdicts.Verdict.TheVariants.{Legal, Illegal}
 
--- the place and the number of the rule of an illegal verdict
+-- the index and the number of the rule of an illegal verdict
 abbrev pub refusal_told : Verdict → Option (ℕ × ℕ)
 refusal_told (Legal complete quiet) = None
 refusal_told (Illegal at rule) = Some (at, rule)

@@ -41,6 +41,7 @@ impl<'w> Judge<'w> {
     pub fn new(alloc: Global, wiring: &'w Wiring) -> Result<Self, OutOfMemory>
         ensures { IfOk result (λ judge. judge ≡ record { wiring = wiring.now; history = [] }) }
     {
+        // `parts` says that the wiring is valid.
         let _valid = wiring.parts();
         let made = Checker::new(alloc, wiring)?;
         let checker = Box::new(alloc, made)?;

@@ -11,7 +11,7 @@ use ccr_model::{Event, History, Rule};
 use ccr_wiring::Wiring;
 use std::alloc::Global;
 
-/// Accepts the events up to the first that isn't allowed after those before it, and answers its place and its rule.
+/// Accepts the events up to the first that isn't allowed after those before it, and answers its index and its rule.
 fn first_refusal(
     checker: &mut Checker<'_>,
     events: &[Event],

@@ -5,7 +5,7 @@ use Rattle.ccr_model.specs.declared.history.Event.{Event}
 use Rattle.ccr_model.specs.Legal.{IsAllowed, IsLegal}
 use Rattle.ccr_model.proofs.LegalParts.{Parted-legal}
 
--- the events before the one at a place, that one, and those behind it
+-- the events before the one at an index, that one, and those behind it
 parted : (es : List Event) (i : ℕ) (e : Event) → i < length es → e ≡ get_or es i e → es ≡ take i es ++ e ∷ drop (i + 1) es
 parted es i e low is =
     let behind : suc i ≡ i + 1 = omega arith in

@@ -17,7 +17,7 @@ use Rattle.ccr_ledger.specs.Books.{Books, number}
 use Rattle.ccr_checker.proofs.Stillness.{some_head}
 use Rattle.ccr_checker.specs.LeftInTables.{has_line_left_in, can_admit_in, has_admission_in, has_queued_in, are_whole_in}
 
--- the poster at a place first, and then those after it
+-- the poster at an index first, and then those after it
 pub are_whole_from-drop : (h : List Event) (ps : List PosterPart) (i n : ℕ) (p : PosterPart) → slice_get ps i ≡ Some p → are_whole_from h n (drop i ps) ≡ (posts_of_poster h n == length p.posts) && are_whole_from h (n + 1) (drop (i + 1) ps)
 are_whole_from-drop h [] i n p at = absurd (cc)
 are_whole_from-drop h (q ∷ ps) zero n p at = let same : q ≡ p = cc in rw same refl
@@ -33,19 +33,19 @@ has_line_left-drop b [] i n p at = absurd (cc)
 has_line_left-drop b (q ∷ ps) zero n p at = let same : q ≡ p = cc in rw same refl
 has_line_left-drop b (q ∷ ps) (suc i) n p at = let e : suc i + 1 ≡ suc (i + 1) = omega arith in rw e (has_line_left-drop b ps i n p at)
 
--- the Interleave at a place first, and then those after it
+-- the Interleave at an index first, and then those after it
 pub has_admission-drop : (b : Books) (xs : List ArbiterPart) (i n : ℕ) → i < length xs → has_admission_in b n (drop i xs) ≡ can_admit_in b n || has_admission_in b (n + 1) (drop (i + 1) xs)
 has_admission-drop b [] i n lt = absurd (omega arith)
 has_admission-drop b (x ∷ xs) zero n lt = refl
 has_admission-drop b (x ∷ xs) (suc i) n lt = let e : suc i + 1 ≡ suc (i + 1) = omega arith in rw e (has_admission-drop b xs i n (omega arith))
 
--- the task at a place first, and then those after it
+-- the task at an index first, and then those after it
 pub some-drop : (p : TaskId × Card → Bool) (cards : List (TaskId × Card)) (i : ℕ) → i < length cards → list_any p (drop i cards) ≡ option_map_or p (slice_get cards i) false || list_any p (drop (i + 1) cards)
 some-drop p [] i lt = absurd (omega arith)
 some-drop p (card ∷ cards) zero lt = refl
 some-drop p (card ∷ cards) (suc i) lt = let e : suc i + 1 ≡ suc (i + 1) = omega arith in rw e (some-drop p cards i (omega arith))
 
--- the queue at a place first, and then those after it
+-- the queue at an index first, and then those after it
 pub has_queued-drop : (b : Books) (qs : List QueuePart) (i n : ℕ) → i < length qs → has_queued_in b n (drop i qs) ≡ not (is_none_of (row b.queued n)) || has_queued_in b (n + 1) (drop (i + 1) qs)
 has_queued-drop b [] i n lt = absurd (omega arith)
 has_queued-drop b (q ∷ qs) zero n lt = refl

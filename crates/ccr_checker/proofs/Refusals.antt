@@ -25,7 +25,7 @@ use Rattle.ccr_base.proofs.Options.{some-below}
 use Rattle.ccr_ledger.specs.Books.{Books, number}
 use Rattle.ccr_ledger.specs.Asked.{made_in}
 use Rattle.ccr_ledger.specs.Kept.{Keeps}
-use Rattle.ccr_ledger.proofs.Telling.{lives_told, room_told, are_choice_told, cuts_told, may_admit_task_told, drops_told, play_told, made_told, budget_told}
+use Rattle.ccr_ledger.proofs.Telling.{lives_told, room_told, are_selected_told, cuts_told, may_admit_task_told, drops_told, play_told, made_told, budget_told}
 use Rattle.ccr_ledger.proofs.RulesTold.{has_fired_told, waits_first_told, queued_first_told, is_ready_told, is_busy_told, runs_told, has_more_told, unfinished_told}
 use Rattle.ccr_checker.specs.Judging.{is_next_line, is_next_post, is_unused, is_idle, sheds, is_ending, refusal_of_post_in, refusal_in}
 
@@ -63,7 +63,7 @@ module _ (w : Parts) (valid : IsValid w) (h : List Event) (legal : IsLegal w h) 
 
   pub refusal_in_told : (e : Event) → refusal_in w b e ≡ refusal w h e
   refusal_in_told (Post m) = refusal_of_post_told m m.id
-  refusal_in_told (Fire t s ms cs) = rw (unused t, lives_told w valid h legal b keeps s, are_choice_told w valid h legal b keeps s ms, room_told w valid h legal b keeps s, cuts_told w valid h legal b keeps s) refl
+  refusal_in_told (Fire t s ms cs) = rw (unused t, lives_told w valid h legal b keeps s, are_selected_told w valid h legal b keeps s ms, room_told w valid h legal b keeps s, cuts_told w valid h legal b keeps s) refl
   refusal_in_told (Admit t) = rw (waits_first_told w valid h legal b keeps t, may_admit_task_told w valid h legal b keeps t) refl
   refusal_in_told (Put t d) = rw (is_ready_told w valid h legal b keeps t, drops_told w valid h legal b keeps t) refl
   refusal_in_told (Start t a) = rw (queued_first_told w valid h legal b keeps t, idle a) refl

@@ -18,7 +18,7 @@ use Rattle.ccr_model.specs.declared.rule.Rule.{Rule}
 use Rattle.ccr_model.specs.declared.rule.Rule.TheVariants as rules
 use Rattle.ccr_model.specs.Rules.{is_post, ends_so, is_shed, is_used_up, refused}
 use Rattle.ccr_ledger.specs.Books.{Books, number}
-use Rattle.ccr_ledger.specs.Asked.{has_fired, lives, are_choice, room, cuts, waits_first, may_admit_task, is_ready, drops, queued_first, is_busy, runs, play_in, made_in, has_more, unfinished, budget_lasts}
+use Rattle.ccr_ledger.specs.Asked.{has_fired, lives, are_selected, room, cuts, waits_first, may_admit_task, is_ready, drops, queued_first, is_busy, runs, play_in, made_in, has_more, unfinished, budget_lasts}
 
 -- rule 1: it is the poster's next line
 abbrev pub is_next_line : Parts → Books → ℕ → ℕ → Msg → Bool
@@ -57,7 +57,7 @@ refusal_in wiring books (Post message) = refusal_of_post_in wiring books message
 refusal_in wiring books (Fire task spot messages cut) =
     refused (is_unused books task) rules.NewTask
     (refused (lives wiring books spot) rules.LiveSpot
-    (refused (are_choice wiring books spot messages) rules.Choice
+    (refused (are_selected wiring books spot messages) rules.Selection
     (refused (room wiring books spot) rules.Room
     (refused (same_lists same_task cut (cuts wiring books spot)) rules.DueCuts None))))
 refusal_in wiring books (Admit task) = refused (waits_first books task) rules.OldestWaiting (refused (may_admit_task books task) rules.Admission None)

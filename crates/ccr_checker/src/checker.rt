@@ -49,6 +49,7 @@ impl<'w> Checker<'w> {
     pub fn new(alloc: Global, wiring: &'w Wiring) -> Result<Self, OutOfMemory>
         ensures { IfOk result (λ checker. checker ≡ record { wiring = wiring.now; history = [] }) }
     {
+        // `parts` says that the wiring is valid.
         let _valid = wiring.parts();
         let ledger = Ledger::new(alloc, wiring)?;
         Ok(Checker {

@@ -122,8 +122,8 @@ fn refusal_of_fire(
     if !ledger.lives(wiring, spot) {
         return Ok(Some(Rule::LiveSpot));
     }
-    if !ledger.are_choice(wiring, spot, messages)? {
-        return Ok(Some(Rule::Choice));
+    if !ledger.are_selected(wiring, spot, messages)? {
+        return Ok(Some(Rule::Selection));
     }
     if !ledger.room(wiring, spot) {
         return Ok(Some(Rule::Room));

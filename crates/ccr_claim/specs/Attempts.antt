@@ -212,7 +212,9 @@ after_all state answers = fold after state answers
 -- the attempt after these answers, if it found no memory after so many of them
 abbrev pub attempt_after : ClaimPlan → TaskId → Option ℕ → List MaybeReply → AttemptState
 attempt_after plan task None answers = after_all (begun plan task) answers
-attempt_after plan task (Some n) answers = if nat_le n (length answers) then after_all (out_of_memory (after_all (begun plan task) (take n answers))) (drop n answers) else after_all (begun plan task) answers
+attempt_after plan task (Some n) answers =
+    if nat_le n (length answers) then after_all (out_of_memory (after_all (begun plan task) (take n answers))) (drop n answers) else
+    after_all (begun plan task) answers
 
 -- after this answer, or given up then out of memory
 abbrev pub IsAfter : AttemptState → MaybeReply → AttemptState → Type 0

@@ -103,14 +103,14 @@ abbrev pub IsUnclaimed : Stage → List Slot → List Had → List Slot → Type
 IsUnclaimed stages.Booking left had slots = (had ≡ []) × (left ≡ reverse slots)
 IsUnclaimed _ left had slots = Unit {0}
 
--- there is room for what the slots that are left get
-abbrev pub HasRoom : Stage → ℕ → ℕ → ℕ → Type 0
-HasRoom stages.Booking left had room = had + left ≤ room
-HasRoom stages.Claiming left had room = had + left ≤ room
-HasRoom _ left had room = Unit {0}
+-- there is spare capacity for what the slots that are left get
+abbrev pub HasSpare : Stage → ℕ → ℕ → ℕ → Type 0
+HasSpare stages.Booking left had capacity = had + left ≤ capacity
+HasSpare stages.Claiming left had capacity = had + left ≤ capacity
+HasSpare _ left had capacity = Unit {0}
 
 -- what is true of the fields
-pub record IsHeld (plan : ClaimPlan) (task : TaskId) (stage : Stage) (waiting : Unanswered) (left : List Slot) (had : List Had) (places : ℕ) (firing : Option Firing) : Type 0 where
+pub record IsSound (plan : ClaimPlan) (task : TaskId) (stage : Stage) (waiting : Unanswered) (left : List Slot) (had : List Had) (capacity : ℕ) (firing : Option Firing) : Type 0 where
   pub ready : IsReady stage waiting firing (ready_of left plan task had)
   pub unclaimed : IsUnclaimed stage left had (slots_in plan.pattern)
-  pub room : HasRoom stage (length left) (length had) places
+  pub spare : HasSpare stage (length left) (length had) capacity

@@ -45,7 +45,9 @@ short_after plan task n answers = out_of_memory (after_all (begun plan task) (ta
 -- the steps of the attempt, if it found no memory after so many of them
 abbrev pub steps : ClaimPlan → TaskId → Option ℕ → List MaybeReply → List AttemptStep
 steps plan task None answers = steps_from (begun plan task) answers
-steps plan task (Some n) answers = if nat_le n (length answers) then steps_from (begun plan task) (take n answers) ++ steps_from (short_after plan task n answers) (drop n answers) else steps_from (begun plan task) answers
+steps plan task (Some n) answers =
+    if nat_le n (length answers) then steps_from (begun plan task) (take n answers) ++ steps_from (short_after plan task n answers) (drop n answers) else
+    steps_from (begun plan task) answers
 
 -- the answers may come in this order; where the attempt is out of memory after so many of them, those behind may come after it gave up
 abbrev pub AreSplit : Bool → ClaimPlan → TaskId → ℕ → List MaybeReply → Type 0

@@ -48,7 +48,7 @@ pub struct Attempt {
 
 impl Model for Attempt {
     ghost use Rattle.ccr_claim.specs.Attempts.{AttemptState};
-    ghost use Rattle.ccr_claim.specs.Inside.{seen, IsHeld};
+    ghost use Rattle.ccr_claim.specs.Inside.{seen, IsSound};
 
     ghost Value = { AttemptState };
 
@@ -56,7 +56,7 @@ impl Model for Attempt {
 
     ghost use Rattle.std.specs.Prelude.{vec_capacity};
 
-    ghost invariant = { λ a. IsHeld a.plan a.task a.stage a.unanswered a.left.items a.had.items (vec_capacity a.had) a.firing };
+    ghost invariant = { λ a. IsSound a.plan a.task a.stage a.unanswered a.left.items a.had.items (vec_capacity a.had) a.firing };
 }
 
 /// No claims, with room for so many.
@@ -102,16 +102,17 @@ impl Attempt {
         Ok(unasked(alloc, plan, task, left, had))
     }
 
-    /// The same in the memory of an earlier attempt, which is done with. Where that has room for the slots, it takes none.
+    /// The same in the memory of an earlier attempt, which is done with, at a spot of the domain of this number. Where that has
+    /// room for the slots, it takes none.
     pub fn begin_in(
         old: Attempt,
         spot: Spot,
         pattern: &Pattern,
         queue: QueueNo,
-        arbiter: ArbiterNo,
+        domain: ArbiterNo,
         task: TaskId,
     ) -> Result<Attempt, OutOfMemory>
-        ensures { IfOk result (λ attempt. attempt ≡ begun (record { spot = spot; pattern = pattern.now; queue = queue; arbiter = arbiter }) task) }
+        ensures { IfOk result (λ attempt. attempt ≡ begun (record { spot = spot; pattern = pattern.now; queue = queue; arbiter = domain }) task) }
     {
         let Attempt {
             alloc,
@@ -126,7 +127,7 @@ impl Attempt {
             spot,
             pattern: copy_in(alloc, plan.pattern, pattern)?,
             queue,
-            arbiter,
+            arbiter: domain,
         };
         Ok(unasked(alloc, plan, task, left, had))
     }

@@ -18,11 +18,6 @@ use Rattle.ccr_commands.specs.Inputs.{history_index, output_part, wiring_part, w
 use Rattle.ccr_commands.specs.Records.{ReplayGives, StepsGives}
 use Rattle.ccr_commands.specs.Services.{ServiceGives, ExpandGives}
 
--- what holds of an answer holds of it as what follows from that
-pub if_ok : {X E : Type 0} (P Q : X → Type 0) → ((x : X) → P x → Q x) → (r : Result X E) → IfOk r P → IfOk r Q
-if_ok P Q follows (Ok x) holds = follows x holds
-if_ok P Q follows (Err e) holds = tt
-
 -- where the wiring's part is read, what is found is what is given
 pub found_is_given : (part : List ℕ) (before : ℕ) (output : List ℕ) (wiring : Parts) (status : Status) (text : List ℕ) → reading_part part ≡ Ok wiring → VerifyGives wiring before output status text → PartsGive part before output status text
 found_is_given part before output wiring Done text reads gives = (wiring, reads, gives)
@@ -41,9 +36,9 @@ parts_due json bytes Shed text gives = gives
 parts_due json bytes TooLong text gives = gives
 
 -- what is given for the two parts of an input is due for it
-pub parts_are_due : (json : Bool) (bytes : List ℕ) (place : ℕ × ℕ) (result : Result Output OutOfMemory) → place ≡ history_index bytes → IfOk result (λ due. PartsGive (take place.0 bytes) place.1 (drop place.0 bytes) due.status due.text) → IfOk result (λ due. AnswersText Verify json bytes due.status due.text)
-parts_are_due json bytes place (Err e) is gives = tt
-parts_are_due json bytes place (Ok due) is gives = parts_due json bytes due.status due.text (subst (λ (p : ℕ × ℕ). PartsGive (take p.0 bytes) p.1 (drop p.0 bytes) due.status due.text) is gives)
+pub parts_are_due : (json : Bool) (bytes : List ℕ) (index : ℕ × ℕ) (result : Result Output OutOfMemory) → index ≡ history_index bytes → IfOk result (λ due. PartsGive (take index.0 bytes) index.1 (drop index.0 bytes) due.status due.text) → IfOk result (λ due. AnswersText Verify json bytes due.status due.text)
+parts_are_due json bytes index (Err e) is gives = tt
+parts_are_due json bytes index (Ok due) is gives = parts_due json bytes due.status due.text (subst (λ (p : ℕ × ℕ). PartsGive (take p.0 bytes) p.1 (drop p.0 bytes) due.status due.text) is gives)
 
 pub replay_is_due : (json : Bool) (bytes : List ℕ) (said : Record) (status : Status) (text : List ℕ) → reading_record bytes ≡ Ok said → ReplayGives said status text → AnswersText Replay json bytes status text
 replay_is_due json bytes said Done text reads gives = (said.wiring, ap wiring_of_record reads, (said, reads, gives))

@@ -19,7 +19,7 @@ use Rattle.ccr_model.specs.declared.history.Event.{Event}
 use Rattle.ccr_model.specs.declared.history.Event.TheVariants as events
 use Rattle.ccr_model.specs.declared.history.EndHow.{EndHow}
 use Rattle.ccr_model.specs.declared.history.EndHow.TheVariants as ends
-use Rattle.ccr_model.specs.Choice.{are_oldest, is_choice}
+use Rattle.ccr_model.specs.Selection.{are_oldest, is_selection}
 use Rattle.ccr_model.specs.Legal.{IsAllowed, IsLegal}
 use Rattle.ccr_model.specs.Live.{is_live, is_live_in}
 use Rattle.ccr_model.specs.Posts.{held, post_of, posts}
@@ -38,7 +38,7 @@ use Rattle.ccr_trace.specs.Known.{AreKnown, HasMessages, HaveMessages, IsKnown, 
 use Rattle.ccr_trace.specs.Values.{HasSmallValue, HaveSmallValues, IsSmallEnd, IsSmallValue}
 use Rattle.ccr_trace.proofs.SingleValues.{of_version, same_single}
 use Rattle.ccr_commands.proofs.SinglePosts.{failed_single, posted_single}
-use Rattle.ccr_commands.proofs.FiringsNameMessages.{choice_takes_some}
+use Rattle.ccr_commands.proofs.FiringsNameMessages.{selection_takes_some}
 
 -- a task failed with the value with which its play ends
 failed_as : (value : List ℕ) (end : PlayEnd) → ends_so (ends.Failed value) end ≡ true → (other : List ℕ) × (end ≡ plays.Failed other) × (same_value value other ≡ true)
@@ -59,7 +59,7 @@ module _ (w : Parts) (valid : IsValid w) where
       let fine = posted_fine w all (h ++ events.Post m ∷ []) legal m among in
       (fine.0, (fine_causes w m.causes fine.1).0, of_version w valid m.value small (λ none. posted_single w none (h ++ events.Post m ∷ []) legal m among))
 
-  spot_known : (h : List Event) (spot : Spot) (names : List MsgId) → is_live w h spot ≡ true → is_choice w h spot names ≡ true → IsKnownSpot w spot
+  spot_known : (h : List Event) (spot : Spot) (names : List MsgId) → is_live w h spot ≡ true → is_selection w h spot names ≡ true → IsKnownSpot w spot
   spot_known h (Branch branch) names live is = let found = some_of (λ (s : Placement). is_live_in w h branch s.domain s.branch.group) (placement w branch) live in there_some (placement w branch) found.0 found.1
   spot_known h (Site branch site) names live is = let found = some_of (λ port. are_oldest (held h port) names) (site_port w branch site) is in there_some (site_port w branch site) found.0 found.1
 
@@ -75,7 +75,7 @@ module _ (w : Parts) (valid : IsValid w) where
 
   event_known : (h : List Event) (e : Event) → IsLegal w h → IsAllowed w h e → HasSmallValue e → IsKnown w e
   event_known h (events.Post m) legal allowed small = post_known h m (legal_push w [] h (events.Post m) legal allowed) small
-  event_known h (events.Fire task spot names cuts) legal allowed small = let facts = FireFacts-allowed w h task spot names cuts allowed in spot_known h spot names facts.live facts.choice_made
+  event_known h (events.Fire task spot names cuts) legal allowed small = let facts = FireFacts-allowed w h task spot names cuts allowed in spot_known h spot names facts.live facts.selection_made
   event_known h (events.Admit task) legal allowed small = tt
   event_known h (events.Put task dropped) legal allowed small = tt
   event_known h (events.Start task actor) legal allowed small = tt
@@ -88,7 +88,7 @@ module _ (w : Parts) (valid : IsValid w) where
   legal_are_known h legal small = λ k d below. known_where_small h legal k d below (small k d below)
 
   event_takes : (h : List Event) (e : Event) → IsAllowed w h e → HasMessages e
-  event_takes h (events.Fire task spot names cuts) allowed = choice_takes_some w h spot names all.patterns (FireFacts-allowed w h task spot names cuts allowed).choice_made
+  event_takes h (events.Fire task spot names cuts) allowed = selection_takes_some w h spot names all.patterns (FireFacts-allowed w h task spot names cuts allowed).selection_made
   event_takes h (events.Post m) allowed = tt
   event_takes h (events.Admit task) allowed = tt
   event_takes h (events.Put task dropped) allowed = tt

@@ -1,7 +1,7 @@
 -- In a wiring of version 1 each value of a legal history is one number at most.
 use Rattle.std.proofs.Common.{◌⊎◌, inl, inr, ◌≡◌, ℕ, zero, suc, Bool, true, false, ◌&&◌, List, [], ◌∷◌, ◌++◌, map, Option, Some, None, refl, sym, subst}
-use Rattle.std.specs.Prelude.{◌==◌, if◌then◌else◌, find, slice_get}
-use Rattle.std.specs.List.{cons_option, list_any}
+use Rattle.std.specs.Prelude.{◌==◌, if◌then◌else◌, slice_get}
+use Rattle.std.specs.List.{list_any}
 use Rattle.std.specs.Option.{option_and_then, option_map_or}
 use Rattle.ccr_base.specs.declared.handlers.Action.{Action}
 use Rattle.ccr_base.specs.declared.messages.Msg.{Msg}
@@ -11,7 +11,7 @@ use Rattle.ccr_base.specs.declared.names.MsgId.TheVariants as names
 use Rattle.ccr_base.specs.declared.names.Spot.{Spot}
 use Rattle.ccr_base.specs.declared.names.Spot.TheVariants.{Site}
 use Rattle.ccr_base.specs.declared.names.TaskId.{TaskId}
-use Rattle.ccr_base.specs.Names.{has_task, same_lists, same_message}
+use Rattle.ccr_base.specs.Names.{has_task, same_lists}
 use Rattle.ccr_base.specs.Values.{same_value}
 use Rattle.ccr_handler.specs.declared.segments.PlayEnd.TheVariants as plays
 use Rattle.ccr_handler.specs.Playing.{actions_from, after_await, is_await}
@@ -23,18 +23,19 @@ use Rattle.ccr_wiring.specs.Wirings.{Placement, actions_of, branch_of, exception
 use Rattle.ccr_wiring.proofs.Lists.{none_at}
 use Rattle.ccr_model.specs.declared.history.Event.{Event}
 use Rattle.ccr_model.specs.declared.history.Event.TheVariants as events
-use Rattle.ccr_model.specs.Firings.{Firing, firing_named, spot_of}
+use Rattle.ccr_model.specs.Firings.{spot_of}
 use Rattle.ccr_model.specs.Legal.{IsAllowed, IsLegal}
-use Rattle.ccr_model.specs.Posts.{message_named, messages_named, post_of, posts, posts_of_poster, posts_of_task}
+use Rattle.ccr_model.specs.Posts.{post_of, posts, posts_of_poster, posts_of_task}
 use Rattle.ccr_model.specs.Rules.{is_play_post, is_post, is_script_line, refusal_of_post}
-use Rattle.ccr_model.specs.Sites.{before, is_firing_of, resumed}
+use Rattle.ccr_model.specs.Sites.{resumed}
 use Rattle.ccr_model.specs.TaskData.{Load, load_after, load_at, messages_of, no_load, no_play, play_at, play_of, with_messages}
 use Rattle.ccr_model.specs.Tasks.{running}
 use Rattle.ccr_base.proofs.Booleans.{both, neither}
-use Rattle.ccr_model.proofs.Members.{Among, Among-at, Among-either, Among-left, Among-right}
+use Rattle.ccr_model.proofs.Members.{Among, Among-at, Among-either}
 use Rattle.ccr_base.proofs.Options.{some_of, some_then}
 use Rattle.ccr_model.proofs.PostNames.{along, refused_not}
 use Rattle.ccr_model.proofs.OneMoreEvent.{posts-push}
+use Rattle.ccr_model.proofs.TakenWerePosted.{took_among}
 use Rattle.ccr_trace.specs.Values.{IsSingle}
 use Rattle.ccr_trace.proofs.SingleValues.{AreSingle, not_long, same_single}
 use Rattle.ccr_trace.proofs.SinglePlays.{IsPlaySingle, no_play_single, play_single}
@@ -77,45 +78,6 @@ module _ (w : Parts) (none : is_newer w ≡ false) where
 
   abbrev ArePosted : List Event → Type 0
   ArePosted h = (m : Msg) → Among m (posts h) → IsSingle m.value
-
-  before_posts : (t : TaskId) (h : List Event) (m : Msg) → Among m (posts (before t h)) → Among m (posts h)
-  before_posts t [] m is = absurd is
-  before_posts t (e ∷ h) m is = by (is_firing_of t e) is (before_posts t h m)
-    where
-      by : (b : Bool) → Among m (posts (if b then [] else e ∷ before t h)) → (Among m (posts (before t h)) → Among m (posts h)) → Among m (post_of e ++ posts h)
-      by true there rest = absurd there
-      by false there rest = of (Among-either m (post_of e) (posts (before t h)) there)
-        where
-          of : Among m (post_of e) ⊎ Among m (posts (before t h)) → Among m (post_of e ++ posts h)
-          of (inl here) = Among-left m (post_of e) (posts h) here
-          of (inr later) = Among-right m (post_of e) (posts h) (rest later)
-
-  found_among : (p : Msg → Bool) (ms : List Msg) (m : Msg) → find p ms ≡ Some m → Among m ms
-  found_among p [] m is = absurd cc
-  found_among p (x ∷ ms) m is = by (p x) is (found_among p ms m)
-    where
-      inside : {a b : Msg} → Some a ≡ Some b → b ≡ a
-      inside e = cc
-
-      by : (b : Bool) → (if b then Some x else find p ms) ≡ Some m → (find p ms ≡ Some m → Among m ms) → Among m (x ∷ ms)
-      by true here rest = inl (inside here)
-      by false later rest = inr (rest later)
-
-  named_among : (h : List Event) (ns : List MsgId) (m : Msg) → Among m (messages_named h ns) → Among m (posts h)
-  named_among h [] m is = absurd is
-  named_among h (name ∷ ns) m is = by (message_named h name) refl is (named_among h ns m)
-    where
-      by : (o : Option Msg) → message_named h name ≡ o → Among m (cons_option o (messages_named h ns)) → (Among m (messages_named h ns) → Among m (posts h)) → Among m (posts h)
-      by None at there rest = rest there
-      by (Some x) at (inl e) rest = subst (λ y. Among y (posts h)) (sym e) (found_among (λ (y : Msg). same_message y.id name) (posts h) x at)
-      by (Some x) at (inr later) rest = rest later
-
-  took_among : (h : List Event) (t : TaskId) (m : Msg) → Among m (messages_of h t) → Among m (posts h)
-  took_among h t m is = by (firing_named h t) is
-    where
-      by : (o : Option Firing) → Among m (option_map_or (λ (f : Firing). messages_named (before t h) f.messages) o []) → Among m (posts h)
-      by None there = absurd there
-      by (Some f) there = before_posts t h m (named_among (before t h) f.messages m there)
 
   values_single : (ms : List Msg) → ((m : Msg) → Among m ms → IsSingle m.value) → AreSingle (map (λ (m : Msg). m.value) ms)
   values_single [] single value is = absurd is

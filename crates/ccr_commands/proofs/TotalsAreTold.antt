@@ -4,8 +4,8 @@ use Rattle.ccr_wiring.specs.declared.parts.Parts.{Parts}
 use Rattle.ccr_model.specs.declared.history.Event.{Event}
 use Rattle.ccr_model.specs.declared.history.Totals.{Totals}
 use Rattle.ccr_model.specs.Counts.{totals}
-use Rattle.ccr_steady.specs.declared.answers.Agreed.{Agreed}
-use Rattle.ccr_steady.specs.declared.answers.Agreed.TheVariants.{Unsteady, Spent, Counts}
+use Rattle.ccr_steady.specs.declared.agreement.Agreed.{Agreed}
+use Rattle.ccr_steady.specs.declared.agreement.Agreed.TheVariants.{Unsteady, Spent, Counts}
 use Rattle.ccr_steady.specs.Agreement.{Agrees, is_counts}
 use Rattle.ccr_commands.specs.Loads.{AreTotalsOf}
 

@@ -1,7 +1,7 @@
 -- What stands where in an input.
 use Rattle.std.specs.Prelude.{ℕ, ◌+◌, ◌==◌, Bool, true, false, List, [], ◌∷◌, take, drop, codes, Option, Some, None, Result, Ok, Err, if◌then◌else◌}
 use Rattle.ccr_base.specs.Bounds.{most_bytes, most_wiring_bytes}
-use Rattle.ccr_text.specs.Lines.{line_of}
+use Rattle.ccr_text.specs.Lines.{find_line}
 use Rattle.ccr_wiring.specs.Actors.{actor_count}
 use Rattle.ccr_wiring.specs.declared.parts.Parts.{Parts}
 use Rattle.ccr_wiretext.specs.Reading.{reading_text}
@@ -23,7 +23,7 @@ limit_of _ = most_wiring_bytes
 
 -- where the first line begins whose first word is `history`, and how many lines stand before it
 abbrev pub history_index : List ℕ → ℕ × ℕ
-history_index bytes = line_of bytes (codes "history")
+history_index bytes = find_line bytes (codes "history")
 
 -- what stands before that line
 abbrev pub wiring_part : List ℕ → List ℕ
@@ -35,7 +35,7 @@ output_part bytes = drop (history_index bytes).0 bytes
 
 -- where the first line begins whose first word is `turn`, and how many lines stand before it
 abbrev pub turn_index : List ℕ → ℕ × ℕ
-turn_index bytes = line_of bytes (codes "turn")
+turn_index bytes = find_line bytes (codes "turn")
 
 -- what stands before that line
 abbrev pub part_before_turns : List ℕ → List ℕ

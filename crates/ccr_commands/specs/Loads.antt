@@ -11,8 +11,8 @@ use Rattle.ccr_model.specs.Order.{IsFinished}
 use Rattle.ccr_report.specs.Report.{total_words}
 use Rattle.ccr_json.specs.Totals.{totals_json}
 use Rattle.ccr_gen.specs.Generated.{generated}
-use Rattle.ccr_steady.specs.declared.answers.Agreed.{Agreed}
-use Rattle.ccr_steady.specs.declared.answers.Agreed.TheVariants.{Counts}
+use Rattle.ccr_steady.specs.declared.agreement.Agreed.{Agreed}
+use Rattle.ccr_steady.specs.declared.agreement.Agreed.TheVariants.{Counts}
 use Rattle.ccr_steady.specs.Agreement.{Agrees}
 use Rattle.ccr_commands.specs.Accounts.{AccountsForAll}
 use Rattle.ccr_opening.specs.Begins.{Begins}

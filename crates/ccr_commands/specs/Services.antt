@@ -7,8 +7,8 @@ use Rattle.ccr_trace.specs.HistoryText.{history_text}
 use Rattle.ccr_text.specs.Exact.{value_word}
 use Rattle.ccr_service.specs.declared.parts.ClientPart.{ClientPart}
 use Rattle.ccr_service.specs.declared.parts.ServiceParts.{ServiceParts}
-use Rattle.ccr_service.specs.declared.replies.Answer.{Answer}
-use Rattle.ccr_service.specs.declared.replies.Answer.TheVariants as answers
+use Rattle.ccr_service.specs.declared.answer.Answer.{Answer}
+use Rattle.ccr_service.specs.declared.answer.Answer.TheVariants as answers
 use Rattle.ccr_service.specs.Answered.{IsServedWhole}
 use Rattle.ccr_service.specs.Expansion.{expansion}
 use Rattle.ccr_service.specs.Services.{IsService}

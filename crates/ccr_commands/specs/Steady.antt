@@ -3,8 +3,8 @@ use Rattle.std.specs.Prelude.{◌≡◌, ℕ, List, [], ◌∷◌, ◌++◌, cod
 use Rattle.ccr_text.specs.Spelling.{line_text}
 use Rattle.ccr_wiring.specs.declared.parts.Parts.{Parts}
 use Rattle.ccr_report.specs.Report.{total_words}
-use Rattle.ccr_steady.specs.declared.answers.Agreed.{Agreed}
-use Rattle.ccr_steady.specs.declared.answers.Agreed.TheVariants.{Unsteady, Spent, Counts}
+use Rattle.ccr_steady.specs.declared.agreement.Agreed.{Agreed}
+use Rattle.ccr_steady.specs.declared.agreement.Agreed.TheVariants.{Unsteady, Spent, Counts}
 use Rattle.ccr_steady.specs.Agreement.{Agrees}
 use Rattle.ccr_commands.specs.declared.status.Status.{Status}
 use Rattle.ccr_commands.specs.declared.status.Status.TheVariants.{Done}

@@ -22,14 +22,12 @@ use crate::steady::answer_steady;
 use crate::verify::verify;
 use ccr_base::{Gate, Name, OutOfMemory};
 use ccr_io::{ReadEnd, Source, read_all};
+use ccr_text::MAX_TEXT;
 use ccr_wiretext::{MAX_WIRING_TEXT, read_wiring};
 use ccr_words::{Command, Request, read_words};
 use std::alloc::Global;
 use std::sync::Wait;
 use std::thread::Threads;
-
-/// The most bytes that a wiring may have with an output or a record behind it.
-const MAX_OUTPUT_TEXT: usize = 33_554_432;
 
 /// The most bytes that an input may have.
 fn limit_of(command: Command) -> usize
@@ -37,7 +35,7 @@ fn limit_of(command: Command) -> usize
     ensures most { result ≤ most_bytes }
 {
     match command {
-        Command::Verify | Command::Replay | Command::Steps => MAX_OUTPUT_TEXT,
+        Command::Verify | Command::Replay | Command::Steps => MAX_TEXT,
         Command::Check
         | Command::Run { .. }
         | Command::Record { .. }

@@ -65,6 +65,7 @@ pub fn run_history<R: AllocGlobal + Threads + Wait + Sync, G: Gate + Sync>(
     ensures accounts { IfOk result (λ made. AccountsForAll wiring.now made.1) }
 {
     complete_histories_account_for_all();
+    // `parts` says that the wiring is valid.
     let _valid = wiring.parts();
     let first = first_history(rt, gate, wiring, workers, turns)?;
     let told = Snapshot::of(&first);

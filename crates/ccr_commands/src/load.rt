@@ -77,6 +77,7 @@ fn load_text<R: AllocGlobal + Threads + Wait + Sync, G: Gate + Sync>(
     complete_histories_account_for_all();
     let alloc = rt.alloc();
     let wiring = generate(alloc, size)?;
+    // `parts` says that the wiring is valid.
     let _valid = wiring.parts();
     let _told = agreed_counts(alloc, &wiring, size)?;
     let first = first_history(rt, gate, &wiring, workers, None)?;

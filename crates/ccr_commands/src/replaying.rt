@@ -1,7 +1,8 @@
 //! A record: its run made again, or the steps of that run.
 
-ghost use Rattle.std.specs.Prelude.{◌<◌, ◌≤◌, ◌+◌, All, IfOk, length};
+ghost use Rattle.std.specs.Prelude.{◌<◌, ◌≤◌, All, IfOk, length};
 ghost use Rattle.ccr_base.specs.Bounds.{most_bytes, most_workers};
+ghost use Rattle.ccr_wiring.specs.Actors.{actor_count};
 ghost use Rattle.ccr_commands.specs.Answers.{AnswersText};
 ghost use Rattle.ccr_commands.specs.Records.{ReplayGives, StepsGives};
 ghost use Rattle.ccr_words.specs.declared.requests.Command.TheVariants.{Replay, Steps};
@@ -23,7 +24,7 @@ fn replay<R: AllocGlobal + Threads + Wait + Sync, G: Gate + Sync>(
     said: &Record,
 ) -> Result<Output, OutOfMemory>
     requires workers { said.now.workers ≤ most_workers }
-    requires turns { All (λ actor. actor < length said.now.wiring.posters + said.now.workers) said.now.turns }
+    requires turns { All (λ actor. actor < actor_count said.now.wiring said.now.workers) said.now.turns }
     ensures { IfOk result (λ due. ReplayGives said.now due.status due.text) }
 {
     let turns = Some(said.turns.as_slice());
@@ -37,7 +38,7 @@ fn replay<R: AllocGlobal + Threads + Wait + Sync, G: Gate + Sync>(
 /// The steps of the run of the record's turns.
 fn steps(alloc: Global, said: &Record) -> Result<Output, OutOfMemory>
     requires workers { said.now.workers ≤ most_workers }
-    requires turns { All (λ actor. actor < length said.now.wiring.posters + said.now.workers) said.now.turns }
+    requires turns { All (λ actor. actor < actor_count said.now.wiring said.now.workers) said.now.turns }
     ensures { IfOk result (λ due. StepsGives said.now due.status due.text) }
 {
     let full = run_schedule(alloc, &said.wiring, said.workers, said.turns.as_slice())?;

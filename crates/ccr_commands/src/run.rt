@@ -71,6 +71,7 @@ fn tell_run<R: AllocGlobal + Threads + Wait + Sync, G: Gate + Sync>(
     ensures { IfOk result (IsToldOf wiring.now workers (option_map (λ t. t.now) turns.entry)) }
 {
     complete_histories_account_for_all();
+    // `parts` says that the wiring is valid.
     let _valid = wiring.parts();
     let first = first_history(rt, gate, wiring, workers, turns)?;
     let told = tell_to_end(rt.alloc(), wiring, actor_count(wiring, workers), first)?;

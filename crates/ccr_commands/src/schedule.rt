@@ -13,7 +13,7 @@ use crate::run::run;
 use ccr_actor::actor_count;
 use ccr_base::{ActorNo, Gate, List, OutOfMemory};
 use ccr_replay::read_turns;
-use ccr_text::line_of;
+use ccr_text::find_line;
 use ccr_wiretext::{ReadRefused, read_wiring};
 use ccr_wiring::Wiring;
 use std::alloc::Global;
@@ -33,7 +33,7 @@ fn read_schedule(
     ensures actors { IfOk result (λ read. All (λ actor. actor < actor_count read.0 workers) read.1) }
     ensures refused { IfErr result (λ why. IsReading (Err why) (reading_run true workers text.now)) }
 {
-    let (index, before) = line_of(text, b"turn");
+    let (index, before) = find_line(text, b"turn");
     let wiring = read_wiring(alloc, &text[..index])?;
     let actors = actor_count(&wiring, workers);
     match read_turns(alloc, &text[index..], before, actors) {

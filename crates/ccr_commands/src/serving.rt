@@ -130,6 +130,7 @@ fn serve<R: AllocGlobal + Threads + Wait + Sync, G: Gate + Sync>(
 {
     requests_have_one_answer();
     let alloc = rt.alloc();
+    // `parts` says that the service is valid.
     let _kept = service.parts();
     let wiring = expand(alloc, service)?;
     let (_first, history) = run_history(rt, gate, &wiring, workers, None)?;

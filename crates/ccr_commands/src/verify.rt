@@ -12,7 +12,7 @@ use crate::outputs::{Output, refused};
 use crate::status::Status;
 use ccr_base::OutOfMemory;
 use ccr_replay::read_part;
-use ccr_text::line_of;
+use ccr_text::find_line;
 use ccr_wiring::Wiring;
 use std::alloc::Global;
 
@@ -69,6 +69,6 @@ pub fn verify(alloc: Global, text: &[u8]) -> Result<Output, OutOfMemory>
     requires { length text.now ≤ most_bytes }
     ensures { (json : Bool) → IfOk result (λ due. AnswersText Verify json text.now due.status due.text) }
 {
-    let (index, before) = line_of(text, b"history");
+    let (index, before) = find_line(text, b"history");
     judge_parts(alloc, &text[..index], before, &text[index..])
 }

@@ -1,5 +1,5 @@
 -- Each step of an actor leaves it less to do.
-use Rattle.std.proofs.Common.{◌≡◌, ◌<◌, ◌≤◌, ℕ, ◌+◌, ◌*◌, ◌^◌, Bool, true, false, List, [], ◌∷◌, Some, None, Ok, Err, refl, sym, ap, subst, cond, arith, inl, inr, ◌∙◌}
+use Rattle.std.proofs.Common.{◌≡◌, ◌<◌, ◌≤◌, ℕ, ◌+◌, ◌*◌, ◌^◌, Bool, true, false, List, [], Some, None, Ok, Err, refl, sym, ap, subst, cond, arith, inl, inr, ◌∙◌}
 use Rattle.std.specs.Prelude.{nat_lt}
 use Rattle.std.proofs.Math.Nat.{mul-le-mul_right}
 use Rattle.ccr_base.specs.declared.names.Spot.{Spot}
@@ -28,6 +28,7 @@ use Rattle.ccr_dispatch.specs.Ranks.{settles_in, admissions_left, drive_left, dr
 use Rattle.ccr_dispatch.specs.ToRest.{IsSettled}
 use Rattle.ccr_dispatch.proofs.WorkLeftFalls.{Fitting, all_work, admit_falls, attempt_waits, calm_drive, calm_waits, drive_falls, hand_falls, settles_append, work_calms, work_falls}
 use Rattle.ccr_actor.proofs.Bounds.{below as some-few, left-few}
+use Rattle.ccr_actor.proofs.StepsOfAttempts.{same-attempt}
 
 radix : (x y m d e : ℕ) → x < y → d < m → x * m + d < y * m + e
 radix x y m d e less few =
@@ -98,10 +99,6 @@ pub record IsAlike (wiring : Parts) (actor : ℕ) (state new : State) : Type 0 w
   pub drive : drive_left new ≡ drive_left state
   pub attempt : in_attempt wiring actor new new.spots ≡ in_attempt wiring actor state state.spots
 
-same-attempt : (wiring : Parts) (actor : ℕ) (one two : State) (spots : List Spot) → one.phase ≡ two.phase → one.attempt ≡ two.attempt → in_attempt wiring actor one spots ≡ in_attempt wiring actor two spots
-same-attempt wiring actor one two [] phase attempt = refl
-same-attempt wiring actor one two (spot ∷ more) phase attempt = rw (phase, attempt) refl
-
 settled-alike : (wiring : Parts) (actor : ℕ) (state : State) (more : List Asked) (reply : Reply) → IsAlike wiring actor state (settled wiring state more reply)
 settled-alike wiring actor state more replies.Done = record { work = refl; drive = refl; attempt = same-attempt wiring actor (settled wiring state more replies.Done) state state.spots refl refl }
 settled-alike wiring actor state more (replies.Got m) = record { work = refl; drive = refl; attempt = same-attempt wiring actor (settled wiring state more (replies.Got m)) state state.spots refl refl }
@@ -122,8 +119,8 @@ settled-alike wiring actor state more (replies.Left n) = record { work = refl; d
 lowers : (wiring : Parts) (actor : ℕ) (state : State) (t : Turn) (one : Asked) (reply : Reply) → IsTurnOf state t → state.hand ≡ [] → IsValid wiring → IsWithin state → IsWithin (after_in wiring actor state t reply)
     → ask_in wiring actor state t ≡ Some one → fits (due_of one.ask) reply ≡ true → rank wiring (after_in wiring actor state t reply) < rank wiring state
 lowers wiring actor state (settle first more) one reply at none valid old new asks fit = cc (sym at ∙ none)
-lowers wiring actor state (admit arbiter more) one reply at none valid old new asks fit =
-    by-admissions wiring state (after_admit state more reply) (admit-alike state more reply).0 (admit-alike state more reply).1 (admit_falls state arbiter more reply none at.2 (some-few state.domains arbiter more state.admitted at.2 old.bounded.domains))
+lowers wiring actor state (admit domain more) one reply at none valid old new asks fit =
+    by-admissions wiring state (after_admit state more reply) (admit-alike state more reply).0 (admit-alike state more reply).1 (admit_falls state domain more reply none at.2 (some-few state.domains domain more state.admitted at.2 old.bounded.domains))
 lowers wiring actor state (drive spot more) one reply at none valid old new asks fit =
     let below = left-few (nat_lt state.attempt (2 ^ 32)) state.spots spot more state.fired at.3 old.bounded.spots in
     let fitting : Fitting (Some (attempt_ask (plan_of wiring spot) (name_at actor state) state.phase)) reply = subst (λ o. Fitting o reply) (sym asks) fit in
@@ -155,7 +152,7 @@ asks-long a one asks none = long-in a.wiring a.actor a.state (turn a.state) one 
   where
     long-in : (wiring : Parts) (actor : ℕ) (state : State) (t : Turn) (one : Asked) → IsTurnOf state t → state.hand ≡ [] → ask_in wiring actor state t ≡ Some one → state.is_short ≡ false
     long-in wiring actor state (settle first more) one at none asks = cc (sym at ∙ none)
-    long-in wiring actor state (admit arbiter more) one at none asks = at.0
+    long-in wiring actor state (admit domain more) one at none asks = at.0
     long-in wiring actor state (drive spot more) one at none asks = at.0
     long-in wiring actor state go_on one at none asks = at.0
     long-in wiring actor state stop one at none asks = absurd (cc asks)
@@ -203,7 +200,7 @@ settled-in wiring actor state (settle first more) one reply at some asks fit =
     let back = settles_append state.hand (in_attempt wiring actor state state.spots) in
     let same = ap settles_in alike.attempt in
     record { left = no-more wiring state new alike.work alike.drive less.admissions; owed = omega (arith, hand, front, back, same) }
-settled-in wiring actor state (admit arbiter more) one reply at some asks fit = absurd (some at.1)
+settled-in wiring actor state (admit domain more) one reply at some asks fit = absurd (some at.1)
 settled-in wiring actor state (drive spot more) one reply at some asks fit = absurd (some at.1)
 settled-in wiring actor state go_on one reply at some asks fit = absurd (some at.1)
 settled-in wiring actor state stop one reply at some asks fit = absurd (some at)
@@ -278,7 +275,7 @@ settled_less a new one (Err refused) asks some all may so =
     refused-in wiring actor state (settle first more) one at some all asks may =
         let same : first ≡ one = cc asks in
         never one.ask (subst (λ (x : Asked). is_settling x.ask ≡ true) same (subst AreSettling at all).0) may
-    refused-in wiring actor state (admit arbiter more) one at some all asks may = some at.1
+    refused-in wiring actor state (admit domain more) one at some all asks may = some at.1
     refused-in wiring actor state (drive spot more) one at some all asks may = some at.1
     refused-in wiring actor state go_on one at some all asks may = some at.1
     refused-in wiring actor state stop one at some all asks may = some at

@@ -37,7 +37,7 @@ use Rattle.ccr_claim.specs.Attempts.{Phase, booking, claiming, had_in, attempt_a
 use Rattle.ccr_claim.proofs.HandsAreOwed.{narrowed-length}
 use Rattle.ccr_wiring.specs.Takers.{spots_at, takes_from, is_for}
 use Rattle.ccr_actor.specs.Plans.{plan_of, one_of, no_pattern, throttled, is_interleave_number}
-use Rattle.ccr_actor.specs.Actors.{State, Work, lines, round, taking, playing, posting, shedding, resting, spots_left, work_ask, name_at, add_arbiter, admit_too, settled, strike, after_admit, give_up, driven_on, fire, after_attempt, after_work, after_line, after_round, after_take, after_play, after_end, after_over, take_from}
+use Rattle.ccr_actor.specs.Actors.{State, Work, lines, round, taking, playing, posting, shedding, resting, spots_left, work_ask, name_at, add_domain, admit_too, settled, strike, after_admit, give_up, driven_on, fire, after_attempt, after_work, after_line, after_round, after_take, after_play, after_end, after_over, take_from}
 use Rattle.ccr_actor.specs.Within.{IsPaced}
 use Rattle.ccr_dispatch.specs.Ranks.{puts_by, puts_in, settles_in, admissions_left, phase_left, drive_left, drive_most, work_left}
 
@@ -120,26 +120,26 @@ firing-puts task had fired cuts =
 
 -- ---- the admissions
 
-strike-falls : (state : State) (arbiter : ℕ) (more : List ℕ) → state.hand ≡ [] → state.domains ≡ arbiter ∷ more → admissions_left (strike state more) < admissions_left state
-strike-falls state arbiter more none at = (let all : length state.domains ≡ suc (length more) = ap length at in omega (arith, all))
+strike-falls : (state : State) (domain : ℕ) (more : List ℕ) → state.hand ≡ [] → state.domains ≡ domain ∷ more → admissions_left (strike state more) < admissions_left state
+strike-falls state domain more none at = (let all : length state.domains ≡ suc (length more) = ap length at in omega (arith, all))
 
 -- the admission of a task, or the first Interleave struck off, leaves less
-pub admit_falls : (state : State) (arbiter : ℕ) (more : List ℕ) (reply : Reply) → state.hand ≡ [] → state.domains ≡ arbiter ∷ more → state.admitted < 32768 → admissions_left (after_admit state more reply) < admissions_left state
-admit_falls state arbiter more replies.Done none at few = strike-falls state arbiter more none at
-admit_falls state arbiter more (replies.Got m) none at few = strike-falls state arbiter more none at
-admit_falls state arbiter more (replies.Busy t) none at few = strike-falls state arbiter more none at
-admit_falls state arbiter more (replies.Short n) none at few = strike-falls state arbiter more none at
-admit_falls state arbiter more (replies.Fired t cuts) none at few = strike-falls state arbiter more none at
-admit_falls state arbiter more (replies.Dead by) none at few = strike-falls state arbiter more none at
-admit_falls state arbiter more (replies.Admitted None) none at few = strike-falls state arbiter more none at
-admit_falls state arbiter more (replies.Admitted (Some task)) none at few = (let all = cond-length (nat_lt (state.admitted + 1) 32768) state.domains in omega (arith, few, all))
-admit_falls state arbiter more replies.Booked none at few = strike-falls state arbiter more none at
-admit_falls state arbiter more (replies.Full n) none at few = strike-falls state arbiter more none at
-admit_falls state arbiter more (replies.Dropped d) none at few = strike-falls state arbiter more none at
-admit_falls state arbiter more (replies.Taken t) none at few = strike-falls state arbiter more none at
-admit_falls state arbiter more (replies.Drawn n) none at few = strike-falls state arbiter more none at
-admit_falls state arbiter more replies.Spent none at few = strike-falls state arbiter more none at
-admit_falls state arbiter more (replies.Left n) none at few = strike-falls state arbiter more none at
+pub admit_falls : (state : State) (domain : ℕ) (more : List ℕ) (reply : Reply) → state.hand ≡ [] → state.domains ≡ domain ∷ more → state.admitted < 32768 → admissions_left (after_admit state more reply) < admissions_left state
+admit_falls state domain more replies.Done none at few = strike-falls state domain more none at
+admit_falls state domain more (replies.Got m) none at few = strike-falls state domain more none at
+admit_falls state domain more (replies.Busy t) none at few = strike-falls state domain more none at
+admit_falls state domain more (replies.Short n) none at few = strike-falls state domain more none at
+admit_falls state domain more (replies.Fired t cuts) none at few = strike-falls state domain more none at
+admit_falls state domain more (replies.Dead by) none at few = strike-falls state domain more none at
+admit_falls state domain more (replies.Admitted None) none at few = strike-falls state domain more none at
+admit_falls state domain more (replies.Admitted (Some task)) none at few = (let all = cond-length (nat_lt (state.admitted + 1) 32768) state.domains in omega (arith, few, all))
+admit_falls state domain more replies.Booked none at few = strike-falls state domain more none at
+admit_falls state domain more (replies.Full n) none at few = strike-falls state domain more none at
+admit_falls state domain more (replies.Dropped d) none at few = strike-falls state domain more none at
+admit_falls state domain more (replies.Taken t) none at few = strike-falls state domain more none at
+admit_falls state domain more (replies.Drawn n) none at few = strike-falls state domain more none at
+admit_falls state domain more replies.Spent none at few = strike-falls state domain more none at
+admit_falls state domain more (replies.Left n) none at few = strike-falls state domain more none at
 
 none-waits : (state : State) → state.hand ≡ [] → state.domains ≡ [] → admissions_left state < 98400
 none-waits state none at =
@@ -297,11 +297,11 @@ calm-take wiring state left queue more (replies.Drawn n) is = calm-from wiring s
 calm-take wiring state left queue more replies.Spent is = calm-from wiring state left (queue + 1) more is
 calm-take wiring state left queue more (replies.Left n) is = calm-from wiring state left (queue + 1) more is
 
-add-few : (wiring : Parts) (arbiter : ℕ) (domains : List ℕ) → length (add_arbiter wiring arbiter domains) ≤ suc (length domains)
-add-few wiring arbiter domains = by-test (is_interleave_number wiring arbiter && not (list_any (λ other. other == arbiter) domains))
+add-few : (wiring : Parts) (domain : ℕ) (domains : List ℕ) → length (add_domain wiring domain domains) ≤ suc (length domains)
+add-few wiring domain domains = by-test (is_interleave_number wiring domain && not (list_any (λ other. other == domain) domains))
   where
-    by-test : (b : Bool) → length (cond b (domains ++ arbiter ∷ []) domains) ≤ suc (length domains)
-    by-test true = (let all = length-append domains (arbiter ∷ []) in omega (arith, all))
+    by-test : (b : Bool) → length (cond b (domains ++ domain ∷ []) domains) ≤ suc (length domains)
+    by-test true = (let all = length-append domains (domain ∷ []) in omega (arith, all))
     by-test false = omega arith
 
 calm-over : (wiring : Parts) (state : State) (task : Task) → state.domains ≡ [] → IsCalm wiring state → IsCalm wiring (after_over wiring state task)
@@ -312,29 +312,29 @@ calm-end wiring state task plays.Done at is = calm-over wiring state task at is
 calm-end wiring state task (plays.Failed value) at is = calm-over wiring state task at is
 calm-end wiring state task (plays.Yield site) at is = record { driven = calm-spots wiring (nat_lt state.attempt (2 ^ 32)) (next_site task.spot ∷ []) (length (spots wiring) + 1) (omega arith); phase = is.phase; hand = is.hand; domains = is.domains }
 
-calm-play : (wiring : Parts) (state : State) (task : Task) (place : ℕ) (play : Play) (posts : List Sent) (reply : Reply) → state.domains ≡ [] → IsCalm wiring state → IsCalm wiring (after_play wiring state task place play posts reply)
-calm-play wiring state task place play [] reply at is = calm-end wiring state task play.end at is
-calm-play wiring state task place play (sent ∷ posts) replies.Done at is = record { driven = is.driven; phase = is.phase; hand = is.hand; domains = is.domains }
-calm-play wiring state task place play (sent ∷ posts) (replies.Got m) at is = record { driven = is.driven; phase = is.phase; hand = is.hand; domains = is.domains }
-calm-play wiring state task place play (sent ∷ posts) (replies.Busy t) at is = record { driven = is.driven; phase = is.phase; hand = is.hand; domains = is.domains }
-calm-play wiring state task place play (sent ∷ posts) (replies.Short n) at is = record { driven = is.driven; phase = is.phase; hand = is.hand; domains = is.domains }
-calm-play wiring state task place play (sent ∷ posts) (replies.Fired t cuts) at is = record { driven = is.driven; phase = is.phase; hand = is.hand; domains = is.domains }
-calm-play wiring state task place play (sent ∷ posts) (replies.Dead by) at is = record { driven = is.driven; phase = is.phase; hand = is.hand; domains = is.domains }
-calm-play wiring state task place play (sent ∷ posts) (replies.Admitted t) at is = record { driven = is.driven; phase = is.phase; hand = is.hand; domains = is.domains }
-calm-play wiring state task place play (sent ∷ posts) replies.Booked at is = record { driven = is.driven; phase = is.phase; hand = is.hand; domains = is.domains }
-calm-play wiring state task place play (sent ∷ posts) (replies.Full n) at is = record { driven = is.driven; phase = is.phase; hand = is.hand; domains = is.domains }
-calm-play wiring state task place play (sent ∷ posts) (replies.Dropped d) at is = record { driven = is.driven; phase = is.phase; hand = is.hand; domains = is.domains }
-calm-play wiring state task place play (sent ∷ posts) (replies.Taken t) at is = record { driven = is.driven; phase = is.phase; hand = is.hand; domains = is.domains }
-calm-play wiring state task place play (sent ∷ posts) (replies.Drawn n) at is = record { driven = is.driven; phase = is.phase; hand = is.hand; domains = is.domains }
-calm-play wiring state task place play (sent ∷ posts) replies.Spent at is = record { driven = is.driven; phase = is.phase; hand = is.hand; domains = is.domains }
-calm-play wiring state task place play (sent ∷ posts) (replies.Left n) at is = record { driven = is.driven; phase = is.phase; hand = is.hand; domains = is.domains }
+calm-play : (wiring : Parts) (state : State) (task : Task) (index : ℕ) (play : Play) (posts : List Sent) (reply : Reply) → state.domains ≡ [] → IsCalm wiring state → IsCalm wiring (after_play wiring state task index play posts reply)
+calm-play wiring state task index play [] reply at is = calm-end wiring state task play.end at is
+calm-play wiring state task index play (sent ∷ posts) replies.Done at is = record { driven = is.driven; phase = is.phase; hand = is.hand; domains = is.domains }
+calm-play wiring state task index play (sent ∷ posts) (replies.Got m) at is = record { driven = is.driven; phase = is.phase; hand = is.hand; domains = is.domains }
+calm-play wiring state task index play (sent ∷ posts) (replies.Busy t) at is = record { driven = is.driven; phase = is.phase; hand = is.hand; domains = is.domains }
+calm-play wiring state task index play (sent ∷ posts) (replies.Short n) at is = record { driven = is.driven; phase = is.phase; hand = is.hand; domains = is.domains }
+calm-play wiring state task index play (sent ∷ posts) (replies.Fired t cuts) at is = record { driven = is.driven; phase = is.phase; hand = is.hand; domains = is.domains }
+calm-play wiring state task index play (sent ∷ posts) (replies.Dead by) at is = record { driven = is.driven; phase = is.phase; hand = is.hand; domains = is.domains }
+calm-play wiring state task index play (sent ∷ posts) (replies.Admitted t) at is = record { driven = is.driven; phase = is.phase; hand = is.hand; domains = is.domains }
+calm-play wiring state task index play (sent ∷ posts) replies.Booked at is = record { driven = is.driven; phase = is.phase; hand = is.hand; domains = is.domains }
+calm-play wiring state task index play (sent ∷ posts) (replies.Full n) at is = record { driven = is.driven; phase = is.phase; hand = is.hand; domains = is.domains }
+calm-play wiring state task index play (sent ∷ posts) (replies.Dropped d) at is = record { driven = is.driven; phase = is.phase; hand = is.hand; domains = is.domains }
+calm-play wiring state task index play (sent ∷ posts) (replies.Taken t) at is = record { driven = is.driven; phase = is.phase; hand = is.hand; domains = is.domains }
+calm-play wiring state task index play (sent ∷ posts) (replies.Drawn n) at is = record { driven = is.driven; phase = is.phase; hand = is.hand; domains = is.domains }
+calm-play wiring state task index play (sent ∷ posts) replies.Spent at is = record { driven = is.driven; phase = is.phase; hand = is.hand; domains = is.domains }
+calm-play wiring state task index play (sent ∷ posts) (replies.Left n) at is = record { driven = is.driven; phase = is.phase; hand = is.hand; domains = is.domains }
 
 calm-at : (wiring : Parts) (state : State) (port : ℕ) → length (spots_left (record state { spots = spots_at wiring port })) ≤ length (spots wiring) + 1
 calm-at wiring state port = (let few = length-kept (takes_from wiring port) (spots wiring) in calm-spots wiring (nat_lt state.attempt (2 ^ 32)) (spots_at wiring port) (length (spots wiring) + 1) (omega (arith, few)))
 
-calm-line : (wiring : Parts) (state : State) (place : ℕ) (sents : List Sent) → IsCalm wiring state → IsCalm wiring (after_line wiring state place sents)
-calm-line wiring state place [] is = record { driven = is.driven; phase = is.phase; hand = is.hand; domains = is.domains }
-calm-line wiring state place (sent ∷ sents) is = record { driven = calm-at wiring state sent.port; phase = is.phase; hand = is.hand; domains = is.domains }
+calm-line : (wiring : Parts) (state : State) (index : ℕ) (sents : List Sent) → IsCalm wiring state → IsCalm wiring (after_line wiring state index sents)
+calm-line wiring state index [] is = record { driven = is.driven; phase = is.phase; hand = is.hand; domains = is.domains }
+calm-line wiring state index (sent ∷ sents) is = record { driven = calm-at wiring state sent.port; phase = is.phase; hand = is.hand; domains = is.domains }
 
 calm-round : (wiring : Parts) (state : State) (reply : Reply) → IsCalm wiring state → IsCalm wiring (after_round wiring state reply)
 calm-round wiring state replies.Done is = is
@@ -353,11 +353,11 @@ calm-round wiring state replies.Spent is = is
 calm-round wiring state (replies.Left n) is = calm-from wiring state n 0 wiring.queues is
 
 calm-work : (wiring : Parts) (state : State) (work : Work) (reply : Reply) → state.domains ≡ [] → IsCalm wiring state → IsCalm wiring (after_work wiring state work reply)
-calm-work wiring state (lines place sents) reply at is = calm-line wiring state place sents is
+calm-work wiring state (lines index sents) reply at is = calm-line wiring state index sents is
 calm-work wiring state round reply at is = calm-round wiring state reply is
 calm-work wiring state (taking left queue more) reply at is = calm-take wiring state left queue more reply is
-calm-work wiring state (playing task place play) reply at is = calm-play wiring state task place play play.posts reply at is
-calm-work wiring state (posting task place play sent) reply at is = record { driven = calm-at wiring state sent.port; phase = is.phase; hand = is.hand; domains = is.domains }
+calm-work wiring state (playing task index play) reply at is = calm-play wiring state task index play play.posts reply at is
+calm-work wiring state (posting task index play sent) reply at is = record { driven = calm-at wiring state sent.port; phase = is.phase; hand = is.hand; domains = is.domains }
 calm-work wiring state (shedding task) reply at is = calm-over wiring state task at is
 calm-work wiring state resting reply at is = is
 
@@ -413,26 +413,26 @@ end-falls wiring state task plays.Done = over-falls wiring state task
 end-falls wiring state task (plays.Failed value) = over-falls wiring state task
 end-falls wiring state task (plays.Yield site) = (let less = round-left (nat_lt state.taken 32768) state.empty in omega (arith, less))
 
-play-falls : (wiring : Parts) (state : State) (task : Task) (place : ℕ) (play : Play) (posts : List Sent) (reply : Reply) → play.posts ≡ posts → all_work (after_play wiring state task place play posts reply) < work_at state (playing task place play)
-play-falls wiring state task place play [] reply is = (let less = end-falls wiring state task play.end in let none : length play.posts ≡ 0 = ap length is in omega (arith, less, none))
-play-falls wiring state task place play (sent ∷ posts) replies.Done is = (let some : length play.posts ≡ suc (length posts) = ap length is in omega (arith, some))
-play-falls wiring state task place play (sent ∷ posts) (replies.Got m) is = (let some : length play.posts ≡ suc (length posts) = ap length is in omega (arith, some))
-play-falls wiring state task place play (sent ∷ posts) (replies.Busy t) is = (let some : length play.posts ≡ suc (length posts) = ap length is in omega (arith, some))
-play-falls wiring state task place play (sent ∷ posts) (replies.Short n) is = (let some : length play.posts ≡ suc (length posts) = ap length is in omega (arith, some))
-play-falls wiring state task place play (sent ∷ posts) (replies.Fired t cuts) is = (let some : length play.posts ≡ suc (length posts) = ap length is in omega (arith, some))
-play-falls wiring state task place play (sent ∷ posts) (replies.Dead by) is = (let some : length play.posts ≡ suc (length posts) = ap length is in omega (arith, some))
-play-falls wiring state task place play (sent ∷ posts) (replies.Admitted t) is = (let some : length play.posts ≡ suc (length posts) = ap length is in omega (arith, some))
-play-falls wiring state task place play (sent ∷ posts) replies.Booked is = (let some : length play.posts ≡ suc (length posts) = ap length is in omega (arith, some))
-play-falls wiring state task place play (sent ∷ posts) (replies.Full n) is = (let some : length play.posts ≡ suc (length posts) = ap length is in omega (arith, some))
-play-falls wiring state task place play (sent ∷ posts) (replies.Dropped d) is = (let some : length play.posts ≡ suc (length posts) = ap length is in omega (arith, some))
-play-falls wiring state task place play (sent ∷ posts) (replies.Taken t) is = (let some : length play.posts ≡ suc (length posts) = ap length is in omega (arith, some))
-play-falls wiring state task place play (sent ∷ posts) (replies.Drawn n) is = (let some : length play.posts ≡ suc (length posts) = ap length is in omega (arith, some))
-play-falls wiring state task place play (sent ∷ posts) replies.Spent is = (let some : length play.posts ≡ suc (length posts) = ap length is in omega (arith, some))
-play-falls wiring state task place play (sent ∷ posts) (replies.Left n) is = (let some : length play.posts ≡ suc (length posts) = ap length is in omega (arith, some))
+play-falls : (wiring : Parts) (state : State) (task : Task) (index : ℕ) (play : Play) (posts : List Sent) (reply : Reply) → play.posts ≡ posts → all_work (after_play wiring state task index play posts reply) < work_at state (playing task index play)
+play-falls wiring state task index play [] reply is = (let less = end-falls wiring state task play.end in let none : length play.posts ≡ 0 = ap length is in omega (arith, less, none))
+play-falls wiring state task index play (sent ∷ posts) replies.Done is = (let some : length play.posts ≡ suc (length posts) = ap length is in omega (arith, some))
+play-falls wiring state task index play (sent ∷ posts) (replies.Got m) is = (let some : length play.posts ≡ suc (length posts) = ap length is in omega (arith, some))
+play-falls wiring state task index play (sent ∷ posts) (replies.Busy t) is = (let some : length play.posts ≡ suc (length posts) = ap length is in omega (arith, some))
+play-falls wiring state task index play (sent ∷ posts) (replies.Short n) is = (let some : length play.posts ≡ suc (length posts) = ap length is in omega (arith, some))
+play-falls wiring state task index play (sent ∷ posts) (replies.Fired t cuts) is = (let some : length play.posts ≡ suc (length posts) = ap length is in omega (arith, some))
+play-falls wiring state task index play (sent ∷ posts) (replies.Dead by) is = (let some : length play.posts ≡ suc (length posts) = ap length is in omega (arith, some))
+play-falls wiring state task index play (sent ∷ posts) (replies.Admitted t) is = (let some : length play.posts ≡ suc (length posts) = ap length is in omega (arith, some))
+play-falls wiring state task index play (sent ∷ posts) replies.Booked is = (let some : length play.posts ≡ suc (length posts) = ap length is in omega (arith, some))
+play-falls wiring state task index play (sent ∷ posts) (replies.Full n) is = (let some : length play.posts ≡ suc (length posts) = ap length is in omega (arith, some))
+play-falls wiring state task index play (sent ∷ posts) (replies.Dropped d) is = (let some : length play.posts ≡ suc (length posts) = ap length is in omega (arith, some))
+play-falls wiring state task index play (sent ∷ posts) (replies.Taken t) is = (let some : length play.posts ≡ suc (length posts) = ap length is in omega (arith, some))
+play-falls wiring state task index play (sent ∷ posts) (replies.Drawn n) is = (let some : length play.posts ≡ suc (length posts) = ap length is in omega (arith, some))
+play-falls wiring state task index play (sent ∷ posts) replies.Spent is = (let some : length play.posts ≡ suc (length posts) = ap length is in omega (arith, some))
+play-falls wiring state task index play (sent ∷ posts) (replies.Left n) is = (let some : length play.posts ≡ suc (length posts) = ap length is in omega (arith, some))
 
-line-falls : (wiring : Parts) (state : State) (place : ℕ) (sents : List Sent) → all_work (after_line wiring state place sents) < work_at state (lines place sents)
-line-falls wiring state place [] = omega arith
-line-falls wiring state place (sent ∷ sents) = omega arith
+line-falls : (wiring : Parts) (state : State) (index : ℕ) (sents : List Sent) → all_work (after_line wiring state index sents) < work_at state (lines index sents)
+line-falls wiring state index [] = omega arith
+line-falls wiring state index (sent ∷ sents) = omega arith
 
 round-falls : (wiring : Parts) (state : State) (reply : Reply) → IsValid wiring → state.empty < 10000 → Fitting (work_ask 0 round) reply → all_work (after_round wiring state reply) < work_at state round
 round-falls wiring state replies.Done valid few fit = cc fit
@@ -452,11 +452,11 @@ round-falls wiring state (replies.Left n) valid few fit = (let less = from-falls
 
 work-in : (wiring : Parts) (actor : ℕ) (state : State) (work : Work) (reply : Reply) → IsValid wiring → IsPaced work state.taken state.empty → IsPaced (after_work wiring state work reply).work (after_work wiring state work reply).taken (after_work wiring state work reply).empty → Fitting (work_ask actor work) reply
     → all_work (after_work wiring state work reply) < work_at state work
-work-in wiring actor state (lines place sents) reply valid old new fit = line-falls wiring state place sents
+work-in wiring actor state (lines index sents) reply valid old new fit = line-falls wiring state index sents
 work-in wiring actor state round reply valid old new fit = round-falls wiring state reply valid old.1 fit
 work-in wiring actor state (taking left queue more) reply valid old new fit = take-falls wiring state left queue more reply old.0 old.1 new
-work-in wiring actor state (playing task place play) reply valid old new fit = play-falls wiring state task place play play.posts reply refl
-work-in wiring actor state (posting task place play sent) reply valid old new fit = omega arith
+work-in wiring actor state (playing task index play) reply valid old new fit = play-falls wiring state task index play play.posts reply refl
+work-in wiring actor state (posting task index play sent) reply valid old new fit = omega arith
 work-in wiring actor state (shedding task) reply valid old new fit = over-falls wiring state task
 work-in wiring actor state resting reply valid old new fit = absurd fit
 
@@ -487,7 +487,7 @@ put-fits asks.Left task fit = cc fit
 too-few : (wiring : Parts) (state : State) (task : Task) → length (admit_too wiring state task) ≤ suc (length state.domains)
 too-few wiring state task = by-test (nat_lt state.admitted 32768)
   where
-    by-test : (b : Bool) → length (cond b (add_arbiter wiring task.arbiter state.domains) state.domains) ≤ suc (length state.domains)
+    by-test : (b : Bool) → length (cond b (add_domain wiring task.arbiter state.domains) state.domains) ≤ suc (length state.domains)
     by-test true = add-few wiring task.arbiter state.domains
     by-test false = omega arith
 

@@ -68,11 +68,11 @@ rounds_most = most_empty_rounds * round_most
 
 -- what is left of the work until the next task is taken: at most 10,000 empty rounds of at most 16 queues
 abbrev pub work_left : Work → ℕ → ℕ
-work_left (lines place sents) empty = 1 + length sents
+work_left (lines index sents) empty = 1 + length sents
 work_left round empty = (most_empty_rounds - empty) * round_most + round_most
 work_left (taking left queue more) empty = (most_empty_rounds - empty) * round_most + (1 + length more)
-work_left (playing task place play) empty = rounds_most + 22 + 2 * length play.posts
-work_left (posting task place play sent) empty = rounds_most + 23 + 2 * length play.posts
+work_left (playing task index play) empty = rounds_most + 22 + 2 * length play.posts
+work_left (posting task index play sent) empty = rounds_most + 23 + 2 * length play.posts
 work_left (shedding task) empty = rounds_most + 21
 work_left resting empty = 0
 

@@ -20,7 +20,7 @@ use Rattle.ccr_model.specs.Firings.{firing_of, fired}
 use Rattle.ccr_model.specs.TaskData.{play_of}
 use Rattle.ccr_model.specs.Tasks.{waiting, queued, running}
 use Rattle.ccr_model.specs.Live.{is_live, has_room}
-use Rattle.ccr_model.specs.Choice.{engine_choice, names_of}
+use Rattle.ccr_model.specs.Selection.{engine_selection, names_of}
 use Rattle.ccr_model.specs.Rules.{cuts_at, may_admit, may_put, drop_at, has_budget}
 use Rattle.ccr_model.specs.Order.{first, post_from, script_post, next_attempt, fire_at, fire_from, admit_first, admit_from, put_first, run_task, run_with, task_post, start_from}
 use Rattle.ccr_model.proofs.OneMoreEvent.{firings-push, fired-fire}
@@ -46,7 +46,7 @@ one_more_post c h n (p ∷ ps) = IfSome-or (OneMore c h) _ _ (of_option (slice_g
     of_option (Some s) = other c h (script_post n (posts_of_poster h n) s) refl
 
 one_more_fire : (w : Parts) (c : ℕ) (h : List Event) (s : Spot) → IfSome (fire_at w c h s) (OneMore c h)
-one_more_fire w c h s = of_test (is_live w h s && has_room w h s) (engine_choice w h s)
+one_more_fire w c h s = of_test (is_live w h s && has_room w h s) (engine_selection w h s)
   where
     of_test : (b : Bool) (o : Option (List Msg)) → IfSome (if b then option_map (λ ms. Fire (record { actor = c; attempt = next_attempt c (fired h) }) s (names_of ms) (cuts_at w h s)) o else None) (OneMore c h)
     of_test false o = tt

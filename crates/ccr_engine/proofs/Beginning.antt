@@ -9,7 +9,7 @@ use Rattle.ccr_base.specs.declared.names.Spot.TheVariants.{Branch, Site}
 use Rattle.ccr_base.specs.declared.patterns.Slot.{Slot}
 use Rattle.ccr_base.specs.declared.patterns.Pattern.{Pattern}
 use Rattle.ccr_base.specs.declared.patterns.Pattern.TheVariants.{Slots, Gather}
-use Rattle.ccr_base.specs.Choice.{is_choosable}
+use Rattle.ccr_base.specs.Selection.{is_choosable}
 use Rattle.ccr_wiring.specs.declared.parts.Parts.{Parts}
 use Rattle.ccr_wiring.specs.Wirings.{Placement, placement}
 use Rattle.ccr_wiring.specs.Valid.{IsValid}

@@ -5,7 +5,7 @@ use Rattle.std.proofs.Math.ListN.{get_or}
 use Rattle.ccr_base.specs.declared.names.Spot.{Spot}
 use Rattle.ccr_base.specs.declared.names.Spot.TheVariants.{Branch, Site}
 use Rattle.ccr_base.proofs.Options.{some-below}
-use Rattle.ccr_model.proofs.ListParts.{take_more}
+use Rattle.ccr_base.proofs.Lists.{take_more}
 use Rattle.ccr_engine.specs.Indices.{branch_indices}
 use Rattle.ccr_engine.proofs.Gaining.{read}
 

@@ -38,7 +38,7 @@ use Rattle.ccr_model.proofs.Roots.{placement_of_root}
 use Rattle.ccr_model.proofs.SameNames.{same_task-is, same_task-self}
 use Rattle.ccr_model.proofs.TasksLeft.{has_task-append, filter_on, of_filter}
 use Rattle.ccr_model.proofs.TaskLists.{to_without, filter_append, first_rest, has_oldest, of_one}
-use Rattle.ccr_model.proofs.TaskPlaces.{ArePlaced-legal, placement_by, new_drop}
+use Rattle.ccr_model.proofs.WhoWasPut.{ArePlaced-legal, placement_by, new_drop}
 use Rattle.ccr_ledger.proofs.Admissions.{over-other, over-last}
 use Rattle.ccr_engine.specs.Cursor.{admission}
 use Rattle.ccr_engine.specs.Touched.{fires_for, touches_domain}
@@ -89,8 +89,8 @@ module _ (w : Parts) (h : List Event) (legal : IsLegal w h) where
   waits_within d u waits =
       let facts = WaitingFacts-waiting w h d u (OneName-legal w h legal) waits in
       let branch = BranchFacts-where w (is_placement_in d) facts.firing.spot facts.is_branch in
-      let place : placement_of w h u ≡ Some branch.place = placement_by w h u facts.firing facts.is_firing ∙ (ap (λ s. placement w (branch_of s)) branch.is_branch ∙ branch.is_place) in
-      ((facts.firing, facts.is_firing), ap (λ o. option_map_or (λ (s : Placement). s.domain == d) o false) place ∙ (both (is_interleave branch.place.kind) (branch.place.domain == d) branch.passes).1)
+      let placed : placement_of w h u ≡ Some branch.placement = placement_by w h u facts.firing facts.is_firing ∙ (ap (λ s. placement w (branch_of s)) branch.is_branch ∙ branch.is_placement) in
+      ((facts.firing, facts.is_firing), ap (λ o. option_map_or (λ (s : Placement). s.domain == d) o false) placed ∙ (both (is_interleave branch.placement.kind) (branch.placement.domain == d) branch.passes).1)
 
   -- whom the event cuts does not wait in a domain at whose branches it does not fire
   none_cut : (e : Event) (d : ℕ) → IsAllowed w h e → fires_for w e d ≡ false → (u : TaskId) → has_task (waiting w h d) u ≡ true → has_task (cut (e ∷ [])) u ≡ false

@@ -18,7 +18,7 @@ use Rattle.ccr_model.specs.Rules.{needs_no_admission}
 use Rattle.ccr_model.proofs.OneMoreEvent.{fired-fire}
 use Rattle.ccr_model.proofs.SameNames.{same_task-is}
 use Rattle.ccr_model.proofs.FiredTasks.{placement_fired}
-use Rattle.ccr_model.proofs.TaskPlaces.{PutFacts-allowed}
+use Rattle.ccr_model.proofs.WhoWasPut.{PutFacts-allowed}
 use Rattle.ccr_model.proofs.AllowedFirings.{firings-other}
 use Rattle.ccr_model.proofs.Cutting.{AdmitFacts-allowed}
 use Rattle.ccr_ledger.specs.declared.cards.Card.{Card}
@@ -74,7 +74,7 @@ module _ (w : Parts) (h : List Event) (b : Books) (keeps : Keeps w h b) where
   ready_kept (Fire t s ms cs) old new legal allowed known changed = ready-fire w h t s ms cs old new legal allowed known (λ index. subst (λ n. has_number new index ≡ ((index == n) && needs_no_admission w s) || has_number old index) tasks_counted (changed index ∙ where_needed (needs_no_admission w s) (index == length b.tasks) (has_number old index)))
   ready_kept (Admit t) old new legal allowed known changed =
       let facts = AdmitFacts-allowed w h t allowed in
-      let fired_so = placement_fired w h t facts.place facts.is_place in
+      let fired_so = placement_fired w h t facts.placement facts.is_placement in
       ready-admit w h t (length (firings (before t h))) old new legal allowed (fired_at_number h t fired_so.0 fired_so.1) known (λ index. rw (← number_known t fired_so.0 index fired_so.1) (changed index))
   ready_kept (Put t d) old new legal allowed known changed =
       let facts = PutFacts-allowed w h t d allowed in

@@ -5,6 +5,7 @@ use Rattle.std.specs.List.{slice_get}
 use Rattle.std.proofs.lemmas.Bool.Decides.{nat_tests}
 use Rattle.std.proofs.lemmas.List.{map-append}
 use Rattle.ccr_base.specs.declared.names.TaskId.{TaskId}
+use Rattle.ccr_base.proofs.Lists.{take_more}
 use Rattle.ccr_wiring.specs.declared.parts.Parts.{Parts}
 use Rattle.ccr_wiring.specs.Wirings.{spots}
 use Rattle.ccr_wiring.specs.Valid.{IsValid}
@@ -13,7 +14,6 @@ use Rattle.ccr_model.specs.Firings.{Firing, firings, fired}
 use Rattle.ccr_model.specs.Legal.{IsAllowed, IsLegal}
 use Rattle.ccr_model.specs.Order.{next_attempt}
 use Rattle.ccr_model.proofs.LegalParts.{Parted-legal}
-use Rattle.ccr_model.proofs.ListParts.{take_more}
 use Rattle.ccr_model.proofs.Stable.{firings-append}
 use Rattle.ccr_ledger.proofs.EventsKeepTables.{keeps-none, keeps-event}
 use Rattle.ccr_engine.specs.Desk.{Desk, Stands, TablesTell, Follows, IsAhead, IsIdle, after_attempt, empty_desk, first_in}

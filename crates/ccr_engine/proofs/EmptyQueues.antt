@@ -18,7 +18,7 @@ use Rattle.ccr_base.proofs.Options.{no_head, none_map}
 use Rattle.ccr_model.proofs.OneMoreEvent.{put-push, started-push, dropped-push}
 use Rattle.ccr_model.proofs.TasksLeft.{out_left}
 use Rattle.ccr_model.proofs.TaskLists.{to_filter, to_without, has_oldest, of_more, not_more, of_one}
-use Rattle.ccr_model.proofs.TaskPlaces.{ArePlaced-legal, QueuedFacts, QueuedFacts-queued, PutFacts-allowed}
+use Rattle.ccr_model.proofs.WhoWasPut.{ArePlaced-legal, QueuedFacts, QueuedFacts-queued, PutFacts-allowed}
 use Rattle.ccr_engine.specs.Cursor.{start_at}
 use Rattle.ccr_engine.specs.Touched.{touches_queue}
 

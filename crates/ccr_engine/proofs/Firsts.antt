@@ -1,5 +1,5 @@
 -- The event that comes first, by the desk.
-use Rattle.std.proofs.Common.{◌≡◌, ◌∙◌, ℕ, zero, suc, ◌+◌, ◌≤◌, List, [], ◌∷◌, length, take, refl, sym, arith, subst, true}
+use Rattle.std.proofs.Common.{◌≡◌, ◌∙◌, ℕ, ◌+◌, ◌≤◌, List, [], ◌∷◌, length, take, refl, sym, arith, subst, true, length-take}
 use Rattle.std.specs.Prelude.{option_and_then}
 use Rattle.std.specs.List.{slice_get}
 use Rattle.ccr_wiring.specs.declared.parts.Parts.{Parts}
@@ -20,12 +20,6 @@ use Rattle.ccr_engine.proofs.Gaining.{passes-same}
 use Rattle.ccr_engine.proofs.Asking.{none_but-same}
 use Rattle.ccr_engine.proofs.PartsAreTold.{post_told, first_fire_told, admission_told, first_admit_told, put_told, none_put_told, first_run_told, start_at_told, start_told}
 
-length-take : {X : Type 0} (n : ℕ) (xs : List X) → length (take n xs) ≤ length xs
-length-take zero [] = omega arith
-length-take zero (x ∷ xs) = omega arith
-length-take (suc n) [] = omega arith
-length-take (suc n) (x ∷ xs) = omega (arith, length-take n xs)
-
 module _ (w : Parts) (c : ℕ) (h : List Event) (d : Desk) (told : TablesTell w h d.books) where
   done_told : (n : ℕ) (ps : List PosterPart) → n + length ps ≤ length w.posters → are_done_in d.books n ps ≡ are_done h n ps
   done_told n [] low = refl
@@ -35,7 +29,7 @@ module _ (w : Parts) (c : ℕ) (h : List Event) (d : Desk) (told : TablesTell w 
   done_so k = done_told 0 (take k w.posters) (omega (arith, length-take k w.posters))
 
   could_so : (k : ℕ) → passes_at (could_fire_in w d.books) (spots w) k ≡ passes_at (could_fire w h) (spots w) k
-  could_so k = passes-same (could_fire_in w d.books) (could_fire w h) (spots w) (λ s. rw (told.lives_so s, told.choice_so s) (could_choose w h s)) k
+  could_so k = passes-same (could_fire_in w d.books) (could_fire w h) (spots w) (λ s. rw (told.lives_so s, told.selection_so s) (could_choose w h s)) k
 
   -- before the desk's poster, and but for its touched spots and its blocked ones, nothing is left by the tables too
   pub idle_stands : Stands w c h d → IsIdle w c d

@@ -10,7 +10,7 @@ use Rattle.ccr_base.specs.declared.patterns.Slot.{Slot}
 use Rattle.ccr_base.specs.declared.patterns.Pattern.{Pattern}
 use Rattle.ccr_base.specs.declared.patterns.Pattern.TheVariants.{Slots, Gather}
 use Rattle.ccr_base.specs.Names.{has_message}
-use Rattle.ccr_base.specs.Choice.{is_choosable, fitting, holds}
+use Rattle.ccr_base.specs.Selection.{is_choosable, fitting, holds}
 use Rattle.ccr_wiring.specs.Repeats.{slot_ports}
 use Rattle.ccr_wiring.specs.Spots.{pattern_ports}
 use Rattle.ccr_model.specs.declared.history.Event.{Event}

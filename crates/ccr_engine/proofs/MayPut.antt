@@ -22,7 +22,7 @@ use Rattle.ccr_model.proofs.LegalParts.{along_legal}
 use Rattle.ccr_model.proofs.ExclusiveRootsAreAlone.{ever_admitted_fired}
 use Rattle.ccr_model.proofs.TaskLists.{of_more, among_left}
 use Rattle.ccr_model.proofs.Allowing.{OneName-legal}
-use Rattle.ccr_model.proofs.TaskPlaces.{ArePlaced-legal}
+use Rattle.ccr_model.proofs.WhoWasPut.{ArePlaced-legal}
 use Rattle.ccr_model.proofs.AllowedFirings.{FiresSo, FiresSo-allowed, firing_named-new, firings-other, WaitingFacts, WaitingFacts-waiting, waits_outside}
 use Rattle.ccr_model.proofs.Cutting.{AdmitFacts, AdmitFacts-allowed, CutFacts-legal, waits_unput, cuts_wait}
 
@@ -127,8 +127,8 @@ may_put-admit w h t u legal allowed = of_test (same_task u t) refl
     facts : AdmitFacts w h t
     facts = AdmitFacts-allowed w h t allowed
 
-    waits : WaitingFacts w h facts.place.domain t
-    waits = WaitingFacts-waiting w h facts.place.domain t (OneName-legal w h legal) facts.waits
+    waits : WaitingFacts w h facts.placement.domain t
+    waits = WaitingFacts-waiting w h facts.placement.domain t (OneName-legal w h legal) facts.waits
 
     or_right_true : (a b : Bool) → a || (b || true) ≡ true
     or_right_true true b = refl
@@ -136,7 +136,7 @@ may_put-admit w h t u legal allowed = of_test (same_task u t) refl
     or_right_true false false = refl
 
     admitted : may_put w (h ++ Admit t ∷ []) t ≡ true
-    admitted = rw (put-push, ever_admitted-push, firings-other h (Admit t) refl, append-nil (put h), waits.is_firing, waits_unput w h facts.place.domain t (CutFacts-legal w h legal) waits, waits.not_cut, has_task-append (ever_admitted h) (t ∷ []) t, same_task-self t) (or_right_true (needs_no_admission w waits.firing.spot) (has_task (ever_admitted h) t))
+    admitted = rw (put-push, ever_admitted-push, firings-other h (Admit t) refl, append-nil (put h), waits.is_firing, waits_unput w h facts.placement.domain t (CutFacts-legal w h legal) waits, waits.not_cut, has_task-append (ever_admitted h) (t ∷ []) t, same_task-self t) (or_right_true (needs_no_admission w waits.firing.spot) (has_task (ever_admitted h) t))
 
     of_test : (b : Bool) → same_task u t ≡ b → may_put w (h ++ Admit t ∷ []) u ≡ b || may_put w h u
     of_test true is = let one : u ≡ t = same_task-is u t is in subst (λ v. may_put w (h ++ Admit t ∷ []) v ≡ true) (sym one) admitted

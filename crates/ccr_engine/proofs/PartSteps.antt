@@ -1,6 +1,6 @@
 -- How the parts go on over the posters, the spots, the domains and the queues.
 use Rattle.std.proofs.Common.{◌≡◌, ◌∙◌, ℕ, zero, suc, ◌+◌, ◌<◌, ◌≤◌, true, false, List, [], ◌∷◌, length, take, Option, None, Some, refl, sym, subst, arith}
-use Rattle.std.specs.Prelude.{nat_le, nat_lt, is_some, if◌then◌else◌}
+use Rattle.std.specs.Prelude.{nat_le, nat_lt, if◌then◌else◌}
 use Rattle.std.proofs.Math.ListN.{get_or}
 use Rattle.std.proofs.lemmas.Option.{slice_get_past}
 use Rattle.std.proofs.lemmas.Bool.Decides.{nat_tests}
@@ -14,7 +14,7 @@ use Rattle.ccr_wiring.specs.declared.parts.QueuePart.{QueuePart}
 use Rattle.ccr_model.specs.declared.history.Event.{Event}
 use Rattle.ccr_model.specs.Order.{script_post}
 use Rattle.ccr_base.proofs.Booleans.{both, neither}
-use Rattle.ccr_base.proofs.Options.{none-above, none_map}
+use Rattle.ccr_base.proofs.Options.{none-above, none_map, not_some}
 use Rattle.ccr_ledger.specs.Books.{Books, number}
 use Rattle.ccr_engine.specs.Parts.{admission_in, are_done_in, fire_in, first_admit_in, first_fire_in, line_in, post_in, fires_in, start_at_in, start_in}
 use Rattle.ccr_engine.specs.Ready.{IsLeast}
@@ -30,10 +30,6 @@ line_none : (b : Books) (n : ℕ) (p : PosterPart) → line_in b n p ≡ None �
 line_none b n p none =
     let out = none-above p.posts (number b.script_posts n) (none_map (script_post n (number b.script_posts n)) (slice_get p.posts (number b.script_posts n)) none) in
     grind (arith, nat_tests, out)
-
-not_some : {X : Type 0} (o : Option X) → is_some o ≡ false → o ≡ None
-not_some None is = refl
-not_some (Some x) is = absurd (cc)
 
 -- the poster there has the first line
 post_at : (b : Books) (n k : ℕ) (ps : List PosterPart) (p : PosterPart) (e : Event) → are_done_in b n (take k ps) ≡ true → slice_get ps k ≡ Some p → line_in b (n + k) p ≡ Some e → post_in b n ps ≡ Some e

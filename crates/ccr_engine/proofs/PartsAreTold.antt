@@ -56,7 +56,7 @@ module _ (w : Parts) (c : ℕ) (h : List Event) (b : Books) (told : TablesTell w
   post_told n (p ∷ ps) low = rw (told.script_posts n (omega (arith, low)), post_told (n + 1) ps (omega (arith, low))) refl
 
   pub fire_told : (s : Spot) → fire_in w (record { actor = c; attempt = next_attempt c (fired h) }) b s ≡ fire_at w c h s
-  fire_told s = rw (told.lives_so s, told.room_so s, told.choice_so s, told.cuts_so s) refl
+  fire_told s = rw (told.lives_so s, told.room_so s, told.selection_so s, told.cuts_so s) refl
 
   -- the next firing by the tables
   pub first_fire_told : (ss : List Spot) → first_fire_in w (record { actor = c; attempt = next_attempt c (fired h) }) b ss ≡ fire_from w c h ss

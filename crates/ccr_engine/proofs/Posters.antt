@@ -1,14 +1,12 @@
 -- Posters that have no line left.
-use Rattle.std.proofs.Common.{◌≡◌, ℕ, zero, suc, ◌+◌, ◌≤◌, Bool, true, List, [], ◌∷◌, ◌++◌, length, filter, take, drop, None, refl, arith}
+use Rattle.std.proofs.Common.{◌≡◌, ℕ, ◌+◌, ◌≤◌, Bool, true, List, [], ◌∷◌, ◌++◌, length, filter, refl, arith}
 use Rattle.std.specs.Prelude.{nat_le}
-use Rattle.std.specs.List.{slice_get}
 use Rattle.std.proofs.lemmas.Grind.{common_steps}
 use Rattle.std.proofs.lemmas.Bool.Decides.{nat_tests}
 use Rattle.ccr_base.specs.declared.messages.Msg.{Msg}
 use Rattle.ccr_wiring.specs.declared.parts.PosterPart.{PosterPart}
 use Rattle.ccr_model.specs.declared.history.Event.{Event}
 use Rattle.ccr_model.specs.Posts.{posts, post_of, is_script_of, posts_of_poster}
-use Rattle.ccr_model.specs.Order.{post_from}
 use Rattle.ccr_model.proofs.OneMoreEvent.{posts-push}
 use Rattle.ccr_base.proofs.Booleans.{both}
 use Rattle.ccr_engine.specs.Cursor.{are_done}
@@ -30,23 +28,3 @@ done-event h e n (p ∷ ps) is =
   where
     at_least : (a b c : ℕ) → b ≤ c → nat_le a b ≡ true → nat_le a c ≡ true
     at_least a b c more is = grind (arith, nat_tests, more, is)
-
-past : {X : Type 0} (xs : List X) (n : ℕ) → length xs ≤ n → slice_get xs n ≡ None
-past [] n few = refl
-past (x ∷ xs) zero few = absurd (omega arith)
-past (x ∷ xs) (suc n) few = past xs n (omega arith)
-
--- the next line is of a poster behind those that are done
-pub post_from-index : (h : List Event) (n k : ℕ) (ps : List PosterPart) → are_done h n (take k ps) ≡ true → post_from h n ps ≡ post_from h (n + k) (drop k ps)
-post_from-index h n zero [] is = refl
-post_from-index h n (suc k) [] is = refl
-post_from-index h n zero (p ∷ ps) is = let same : n + 0 ≡ n = omega arith in rw same refl
-post_from-index h n (suc k) (p ∷ ps) is =
-    let parts = both (nat_le (length p.posts) (posts_of_poster h n)) (are_done h (n + 1) (take k ps)) is in
-    let few : length p.posts ≤ posts_of_poster h n = low (length p.posts) (posts_of_poster h n) parts.0 in
-    let none : slice_get p.posts (posts_of_poster h n) ≡ None = past p.posts (posts_of_poster h n) few in
-    let same : n + suc k ≡ (n + 1) + k = omega arith in
-    rw (none, same) (post_from-index h (n + 1) k ps parts.1)
-  where
-    low : (a b : ℕ) → nat_le a b ≡ true → a ≤ b
-    low a b is = grind (arith, nat_tests, is)

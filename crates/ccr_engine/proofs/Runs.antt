@@ -1,6 +1,7 @@
 -- What an engine keeps, and a run of it from its start to its end.
 use Rattle.std.proofs.Common.{◌≡◌, ℕ, ◌+◌, ◌<◌, ◌≤◌, true, false, List, [], ◌∷◌, ◌++◌, length, Option, Some, None, refl, sym, arith, ap, ◌∙◌, subst, append_assoc, append-nil, length-append}
 use Rattle.std.specs.Prelude.{IfSome, IfNone, is_some, ◌^◌}
+use Rattle.ccr_base.proofs.Options.{not_some}
 use Rattle.ccr_wiring.specs.declared.parts.Parts.{Parts}
 use Rattle.ccr_wiring.specs.Valid.{IsValid}
 use Rattle.ccr_model.specs.declared.history.Event.{Event}
@@ -134,10 +135,6 @@ GoesFrom-next start s next sound goes some is = rw is (with_one (λ h. IsSound (
     of_event : (e : Event) → next_event s ≡ Some e → IsSound (record s { history = s.history ++ e ∷ [] }) → GoesFrom start (record s { history = s.history ++ e ∷ [] }) × (potential start.wiring (s.history ++ e ∷ []) < potential start.wiring s.history)
     of_event e some sound = (goes_on start s goes e some, rw (← goes.wiring) (potential-push s.wiring (TakesSome-valid s.wiring sound.valid) s.history e sound.legal))
 
-none_if_not_some : (o : Option Event) → is_some o ≡ false → o ≡ None
-none_if_not_some None is = refl
-none_if_not_some (Some e) is = absurd (cc)
-
 -- what is said of the history where nothing comes next
 pub record IsDone (start : Engine) (h : List Event) : Type 0 where
   pub finished : IsFinished start.wiring start.closer start.history h
@@ -157,6 +154,6 @@ done start s sound goes is = record {
 -- where a step finds nothing, the run is done
 pub IsDone-next : (start s next : Engine) → IsSound next → GoesFrom start s → is_some (next_event s) ≡ false → next ≡ next_engine s → IsDone start next.history
 IsDone-next start s next sound goes none is =
-    let nothing : next_event s ≡ None = none_if_not_some (next_event s) none in
+    let nothing : next_event s ≡ None = not_some (next_event s) none in
     let stays : next ≡ s = is ∙ rw nothing refl in
     rw stays (done start s (subst IsSound stays sound) goes nothing)

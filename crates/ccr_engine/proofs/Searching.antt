@@ -16,7 +16,7 @@ use Rattle.ccr_base.proofs.Options.{no_head, some_then}
 use Rattle.ccr_base.specs.Lists.{has_number}
 use Rattle.ccr_ledger.specs.Rows.{row, with_row}
 use Rattle.ccr_ledger.specs.Books.{Books}
-use Rattle.ccr_ledger.specs.Asked.{lives, room, choice_at}
+use Rattle.ccr_ledger.specs.Asked.{lives, room, selection_at}
 use Rattle.ccr_engine.specs.declared.search.Found.{Found}
 use Rattle.ccr_engine.specs.Ready.{IsLeast, IsLeastFirst}
 use Rattle.ccr_engine.specs.Numbered.{passes_at}
@@ -95,8 +95,8 @@ pub full_before : (w : Parts) (b : Books) (blocked : List (List ℕ)) (found : O
 full_before w b blocked found first = λ q k among before. first.full q k (row_within blocked q k among) among before
 
 -- what fires could fire, and has room
-fires_parts : (w : Parts) (t : TaskId) (b : Books) (s : Spot) → fires_in w t b s ≡ (lives w b s && room w b s) && is_some (choice_at w b s)
-fires_parts w t b s = is_some-if (lives w b s && room w b s) (choose_in w t b s) ∙ ap (λ c. (lives w b s && room w b s) && c) (is_some-map _ (choice_at w b s))
+fires_parts : (w : Parts) (t : TaskId) (b : Books) (s : Spot) → fires_in w t b s ≡ (lives w b s && room w b s) && is_some (selection_at w b s)
+fires_parts w t b s = is_some-if (lives w b s && room w b s) (choose_in w t b s) ∙ ap (λ c. (lives w b s && room w b s) && c) (is_some-map _ (selection_at w b s))
 
 no_room : (w : Parts) (t : TaskId) (b : Books) (k : ℕ) → passes_at (room w b) (spots w) k ≡ false → passes_at (fires_in w t b) (spots w) k ≡ false
 no_room w t b k full = of_option (slice_get (spots w) k) full
@@ -107,7 +107,7 @@ no_room w t b k full = of_option (slice_get (spots w) k) full
 
     of_option : (o : Option Spot) → option_map_or (room w b) o false ≡ false → option_map_or (fires_in w t b) o false ≡ false
     of_option None full = refl
-    of_option (Some s) full = fires_parts w t b s ∙ of_bools (lives w b s) (room w b s) (is_some (choice_at w b s)) full
+    of_option (Some s) full = fires_parts w t b s ∙ of_bools (lives w b s) (room w b s) (is_some (selection_at w b s)) full
 
 could_not : (w : Parts) (t : TaskId) (b : Books) (k : ℕ) → passes_at (could_fire_in w b) (spots w) k ≡ false → passes_at (fires_in w t b) (spots w) k ≡ false
 could_not w t b k out = of_option (slice_get (spots w) k) out
@@ -119,7 +119,7 @@ could_not w t b k out = of_option (slice_get (spots w) k) out
 
     of_option : (o : Option Spot) → option_map_or (could_fire_in w b) o false ≡ false → option_map_or (fires_in w t b) o false ≡ false
     of_option None out = refl
-    of_option (Some s) out = fires_parts w t b s ∙ of_bools (lives w b s) (room w b s) (is_some (choice_at w b s)) out
+    of_option (Some s) out = fires_parts w t b s ∙ of_bools (lives w b s) (room w b s) (is_some (selection_at w b s)) out
 
 none_some : {X : Type 0} (o : Option X) → o ≡ None → is_some o ≡ false
 none_some None none = refl
@@ -136,7 +136,7 @@ asked_vain w t b k roomy none = of_option (slice_get (spots w) k) roomy none
 
     of_option : (o : Option Spot) → option_map_or (room w b) o false ≡ true → option_and_then (fire_in w t b) o ≡ None → option_map_or (could_fire_in w b) o false ≡ false
     of_option None roomy none = refl
-    of_option (Some s) roomy none = of_bools (lives w b s) (room w b s) (is_some (choice_at w b s)) roomy (sym (fires_parts w t b s) ∙ none_some (fire_in w t b s) none)
+    of_option (Some s) roomy none = of_bools (lives w b s) (room w b s) (is_some (selection_at w b s)) roomy (sym (fires_parts w t b s) ∙ none_some (fire_in w t b s) none)
 
 -- none before the limit fires, where none that is touched is before it
 none_can : (w : Parts) (t : TaskId) (b : Books) (touched : List ℕ) (blocked : List (List ℕ)) (limit : Option ℕ) → IsStillIn w b touched blocked → IsFullBefore w b blocked limit → ((k : ℕ) → is_before limit k ≡ true → has_number touched k ≡ false) → IsNoneBefore w t b limit

@@ -12,23 +12,17 @@ use Rattle.std.proofs.lemmas.Option.{slice_get-get_or}
 use Rattle.ccr_base.specs.declared.names.Spot.{Spot}
 use Rattle.ccr_base.specs.declared.names.Spot.TheVariants.{Branch, Site}
 use Rattle.ccr_base.specs.Names.{same_spot}
-use Rattle.ccr_base.proofs.Booleans.{both, eq-self, same_number, or_left, or_right}
+use Rattle.ccr_base.proofs.Booleans.{eq-self, or_left, or_right}
+use Rattle.ccr_base.proofs.Lists.{take_more}
 use Rattle.ccr_wiring.specs.declared.parts.Parts.{Parts}
 use Rattle.ccr_wiring.specs.Takers.{spots_at, takes_from}
 use Rattle.ccr_wiring.specs.Wirings.{spots}
 use Rattle.ccr_wiring.proofs.Lists.{any_none}
-use Rattle.ccr_model.proofs.ListParts.{take_more}
+use Rattle.ccr_model.proofs.SameNames.{same_spot-is}
 use Rattle.ccr_engine.specs.Indices.{first_index}
 use Rattle.ccr_engine.specs.Numbered.{Gains, passes_at}
 use Rattle.ccr_engine.proofs.Gaining.{gains-both, gains-same}
 use Rattle.ccr_engine.proofs.SpotIndices.{spot_once}
-
--- equal by the test, equal
-same_spot-is : (s t : Spot) → same_spot s t ≡ true → s ≡ t
-same_spot-is (Branch b) (Branch c) is = ap Branch (same_number b c is)
-same_spot-is (Branch b) (Site c l) is = absurd (cc)
-same_spot-is (Site b k) (Branch c) is = absurd (cc)
-same_spot-is (Site b k) (Site c l) is = let parts = both (b == c) (k == l) is in ap (λ n. Site n k) (same_number b c parts.0) ∙ ap (λ n. Site c n) (same_number k l parts.1)
 
 same_spot-self : (s : Spot) → same_spot s s ≡ true
 same_spot-self (Branch b) = eq-self b

@@ -24,7 +24,7 @@ use Rattle.ccr_ledger.specs.declared.cards.Card.{Card}
 use Rattle.ccr_ledger.specs.Books.{Books}
 use Rattle.ccr_ledger.specs.Kept.{Keeps, card_of}
 use Rattle.ccr_ledger.proofs.TaskCards.{CardFacts-fired}
-use Rattle.ccr_ledger.proofs.Telling.{lives_told, room_told, choice_told, cuts_told, may_admit_task_told, drops_told, play_told, made_told, budget_told}
+use Rattle.ccr_ledger.proofs.Telling.{lives_told, room_told, selection_told, cuts_told, may_admit_task_told, drops_told, play_told, made_told, budget_told}
 use Rattle.ccr_engine.specs.Parts.{is_in_domain, is_for_queue_in, yields_in}
 use Rattle.ccr_engine.specs.Desk.{TablesTell}
 
@@ -40,14 +40,14 @@ module _ (w : Parts) (valid : IsValid w) (h : List Event) (legal : IsLegal w h) 
   domain_told domain t within =
       let found = some_of (λ (s : Placement). s.domain == domain) (placement_of w h t) within in
       let facts = CardFacts-fired w h t b legal keeps.tasks (placement_fired w h t found.0 found.1) in
-      let own : facts.card.domain ≡ domain = facts.domain ∙ same_number facts.place.domain domain (sym (ap (λ o. option_map_or (λ (s : Placement). s.domain == domain) o false) facts.is_placement) ∙ within) in
+      let own : facts.card.domain ≡ domain = facts.domain ∙ same_number facts.placement.domain domain (sym (ap (λ o. option_map_or (λ (s : Placement). s.domain == domain) o false) facts.is_placement) ∙ within) in
       rw (facts.is_card, own) (eq-self domain)
 
   for_queue_told : (queue : ℕ) (t : TaskId) → is_for_queue w h queue t ≡ true → is_for_queue_in b queue t ≡ true
   for_queue_told queue t goes =
       let found = some_of (λ (s : Placement). s.branch.queue == queue) (placement_of w h t) goes in
       let facts = CardFacts-fired w h t b legal keeps.tasks (placement_fired w h t found.0 found.1) in
-      let own : facts.card.queue ≡ queue = facts.queue ∙ same_number facts.place.branch.queue queue (sym (ap (λ o. option_map_or (λ (s : Placement). s.branch.queue == queue) o false) facts.is_placement) ∙ goes) in
+      let own : facts.card.queue ≡ queue = facts.queue ∙ same_number facts.placement.branch.queue queue (sym (ap (λ o. option_map_or (λ (s : Placement). s.branch.queue == queue) o false) facts.is_placement) ∙ goes) in
       rw (facts.is_card, own) (eq-self queue)
 
   -- what the order asks of the tables is what the model says, where they keep what it says
@@ -56,11 +56,11 @@ module _ (w : Parts) (valid : IsValid w) (h : List Event) (legal : IsLegal w h) 
     script_posts = keeps.script_posts.script_posts;
     lives_so = lives_told w valid h legal b keeps;
     room_so = room_told w valid h legal b keeps;
-    choice_so = choice_told w valid h legal b keeps;
+    selection_so = selection_told w valid h legal b keeps;
     cuts_so = cuts_told w valid h legal b keeps;
     waits_so = keeps.rows.waiting;
     may_admit_task_so = may_admit_task_told w valid h legal b keeps;
-    names = λ place. sym (slice_get-map (λ (entry : TaskId × Card). entry.0) b.tasks place) ∙ ap (λ ts. slice_get ts place) keeps.tasks.names;
+    names = λ index. sym (slice_get-map (λ (entry : TaskId × Card). entry.0) b.tasks index) ∙ ap (λ ts. slice_get ts index) keeps.tasks.names;
     drops_so = drops_told w valid h legal b keeps;
     runs_so = keeps.rows.running;
     play_so = play_told w valid h legal b keeps;

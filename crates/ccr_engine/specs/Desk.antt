@@ -16,12 +16,12 @@ use Rattle.ccr_model.specs.Sites.{yields_at}
 use Rattle.ccr_model.specs.TaskData.{play_of}
 use Rattle.ccr_model.specs.Tasks.{waiting, queued, running, is_of_domain, is_for_queue}
 use Rattle.ccr_model.specs.Live.{is_live, has_room}
-use Rattle.ccr_model.specs.Choice.{engine_choice}
+use Rattle.ccr_model.specs.Selection.{engine_selection}
 use Rattle.ccr_model.specs.Rules.{cuts_at, may_admit, drop_at, has_budget, needs_no_admission}
 use Rattle.ccr_model.specs.Order.{next_attempt}
 use Rattle.ccr_ledger.specs.Rows.{row, empty_rows}
 use Rattle.ccr_ledger.specs.Books.{Books, number, card_at, runners}
-use Rattle.ccr_ledger.specs.Asked.{lives, room, choice_at, cuts, may_admit_task, drops, play_in, made_in, budget_lasts}
+use Rattle.ccr_ledger.specs.Asked.{lives, room, selection_at, cuts, may_admit_task, drops, play_in, made_in, budget_lasts}
 use Rattle.ccr_ledger.specs.declared.cards.Card.{Card}
 use Rattle.ccr_ledger.specs.Events.{after_event, empty_books}
 use Rattle.ccr_ledger.specs.Kept.{Keeps}
@@ -99,7 +99,7 @@ pub record TablesTell (wiring : Parts) (history : List Event) (books : Books) : 
   pub script_posts : (poster : ℕ) → poster < length wiring.posters → number books.script_posts poster ≡ posts_of_poster history poster
   pub lives_so : (spot : Spot) → lives wiring books spot ≡ is_live wiring history spot
   pub room_so : (spot : Spot) → room wiring books spot ≡ has_room wiring history spot
-  pub choice_so : (spot : Spot) → choice_at wiring books spot ≡ engine_choice wiring history spot
+  pub selection_so : (spot : Spot) → selection_at wiring books spot ≡ engine_selection wiring history spot
   pub cuts_so : (spot : Spot) → cuts wiring books spot ≡ cuts_at wiring history spot
   pub waits_so : (domain : ℕ) → domain < length wiring.arbiters → row books.waiting domain ≡ waiting wiring history domain
   pub may_admit_task_so : (task : TaskId) → may_admit_task books task ≡ may_admit wiring history task

@@ -18,13 +18,13 @@ use Rattle.ccr_wiring.specs.Wirings.{placement, site_port, next_site, spots}
 use Rattle.ccr_model.specs.declared.history.Event.{Event}
 use Rattle.ccr_model.specs.declared.history.Event.TheVariants.{Fire, Admit, Put, Start, End}
 use Rattle.ccr_model.specs.declared.history.EndHow.TheVariants as ends
-use Rattle.ccr_model.specs.Choice.{names_of}
+use Rattle.ccr_model.specs.Selection.{names_of}
 use Rattle.ccr_model.specs.Firings.{yielded_by, last_by, put_by}
 use Rattle.ccr_model.specs.Order.{script_post, task_post, how_of}
 use Rattle.ccr_ledger.specs.Rows.{row}
 use Rattle.ccr_ledger.specs.declared.cards.Card.{Card}
 use Rattle.ccr_ledger.specs.Books.{Books, number, card_at}
-use Rattle.ccr_ledger.specs.Asked.{lives, room, choice_at, cuts, may_admit_task, drops, play_in, made_in, budget_lasts}
+use Rattle.ccr_ledger.specs.Asked.{lives, room, selection_at, cuts, may_admit_task, drops, play_in, made_in, budget_lasts}
 use Rattle.ccr_engine.specs.Touched.{posts_to, touches_branch, fires_for}
 use Rattle.ccr_engine.specs.Numbered.{passes_at}
 use Rattle.ccr_engine.specs.Blocked.{is_blocked}
@@ -38,11 +38,11 @@ abbrev pub post_in : Books → ℕ → List PosterPart → Option Event
 post_in books actor [] = None
 post_in books actor (poster ∷ posters) = option_or (line_in books actor poster) (post_in books (actor + 1) posters)
 
--- the firing of the task at the spot, where it has a choice
+-- the firing of the task at the spot, where it has a selection
 abbrev pub choose_in : Parts → TaskId → Books → Spot → Option Event
-choose_in wiring task books spot = option_map (λ messages. Fire task spot (names_of messages) (cuts wiring books spot)) (choice_at wiring books spot)
+choose_in wiring task books spot = option_map (λ messages. Fire task spot (names_of messages) (cuts wiring books spot)) (selection_at wiring books spot)
 
--- the firing of the task at the spot, where it is live, has room and has a choice
+-- the firing of the task at the spot, where it is live, has room and has a selection
 abbrev pub fire_in : Parts → TaskId → Books → Spot → Option Event
 fire_in wiring task books spot = if lives wiring books spot && room wiring books spot then choose_in wiring task books spot else None
 
@@ -123,7 +123,7 @@ fires_in wiring task books spot = is_some (fire_in wiring task books spot)
 
 -- whether the spot can fire, room aside
 abbrev pub could_fire_in : Parts → Books → Spot → Bool
-could_fire_in wiring books spot = lives wiring books spot && is_some (choice_at wiring books spot)
+could_fire_in wiring books spot = lives wiring books spot && is_some (selection_at wiring books spot)
 
 -- no spot can fire, room aside, but those at the touched indices and those at the blocked ones
 abbrev pub IsStillIn : Parts → Books → List ℕ → List (List ℕ) → Type 0

@@ -61,6 +61,7 @@ impl<'w> Engine<'w> {
         requires low { closer ≤ most_actors }
         ensures { IfOk result (λ engine. engine ≡ record { wiring = wiring.now; closer = closer; history = [] }) }
     {
+        // `parts` says that the wiring is valid.
         wiring.parts();
         let (indices, desk) = begin(alloc, wiring)?;
         Ok(Engine {
@@ -86,6 +87,7 @@ impl<'w> Engine<'w> {
         requires attempts { next_attempt closer (fired events.now) ≤ most_attempts }
         ensures { IfOk result (λ engine. engine ≡ record { wiring = wiring.now; closer = closer; history = events.now }) }
     {
+        // `parts` says that the wiring is valid.
         wiring.parts();
         Engine::behind(alloc, wiring, closer, events)
     }
@@ -141,6 +143,7 @@ impl<'w> Engine<'w> {
         if !self.whole {
             return Err(OutOfMemory);
         }
+        // `parts` says that the wiring is valid.
         let _valid = self.indices.parts();
         self.whole = false;
         self.desk.push(&self.indices, self.closer, event)?;

@@ -120,6 +120,7 @@ impl<'w> SpotIndices<'w> {
     pub(crate) fn next_site(&self, spot: Spot) -> Option<usize>
         ensures { result ≡ first_index (same_spot (next_site spot)) (spots self.now) }
     {
+        // `parts` says that the wiring is valid.
         let _valid = self.wiring.parts();
         match spot {
             Spot::Branch(branch) => self.of_site(branch, 0),

@@ -82,7 +82,7 @@ pub(crate) fn first_post(
     Ok(None)
 }
 
-/// The firing of the task at the spot, where it has a choice.
+/// The firing of the task at the spot, where it has a selection.
 pub(crate) fn choose_at(
     wiring: &Wiring,
     ledger: &mut Ledger,
@@ -92,7 +92,7 @@ pub(crate) fn choose_at(
     ensures event { IfOk result (λ event. event ≡ choose_in wiring.now task ledger.old spot) }
     ensures kept { OnOk result (ledger.new ≡ ledger.old) }
 {
-    let Some(messages) = ledger.choice(wiring, spot)? else {
+    let Some(messages) = ledger.selection(wiring, spot)? else {
         return Ok(None);
     };
     let cuts = ledger.cuts(wiring, spot)?;

@@ -23,6 +23,7 @@ pub(crate) fn desk_of(
     requires attempts { next_attempt closer (fired events.now) < 2 ^ 32 }
     ensures { IfOk result (Stands indices.now closer events.now) }
 {
+    // `parts` says that the wiring is valid.
     let _valid = indices.parts();
     let mut desk = Desk::new(alloc, indices.wiring())?;
     for event in events {

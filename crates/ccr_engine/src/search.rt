@@ -120,6 +120,7 @@ fn lacks_room(
     if ledger.room(wiring, spot) {
         return Ok(false);
     }
+    // `parts` says that the wiring is valid.
     let _valid = wiring.parts();
     if let Some(queue) = queue_at(wiring, spot) {
         blocked.enter(queue as usize, index)?;

@@ -15,13 +15,13 @@ use std::alloc::Global;
 /// What is found of a history.
 #[derive(Clone, Copy, Debug)]
 pub enum HistoryFound {
-    /// The event of this place, from 0, isn't allowed after those before it, by the rule of this number.
+    /// The event of this index, from 0, isn't allowed after those before it, by the rule of this number.
     Illegal { at: u32, rule: u8 },
     /// Each event is allowed; whether the scripts are posted to their ends, and whether nothing more may happen.
     Legal { complete: bool, quiet: bool },
 }
 
-/// Feeds the events up to the first that isn't allowed after those before it, and answers its place and the number of its rule.
+/// Feeds the events up to the first that isn't allowed after those before it, and answers its index and the number of its rule.
 fn first_refused(judge: &mut Judge<'_>, events: &[Event]) -> Result<Option<(u32, u8)>, OutOfMemory>
     requires { judge.old.history ≡ [] }
     ensures first { IfOk result (λ refused. refused ≡ option_map numbered (first_refusal judge.old.wiring [] 0 events.now)) }

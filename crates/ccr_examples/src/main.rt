@@ -19,7 +19,7 @@ use crate::tally::raise_by_two;
 use ccr_base::OutOfMemory;
 use ccr_model::History;
 use ccr_trace::write_history;
-use ccr_wiretext::read_wiring;
+use ccr_wiretext::{MAX_WIRING_TEXT, read_wiring};
 use ccr_wiring::Wiring;
 use std::alloc::Global;
 use std::io::{self, Write};
@@ -114,7 +114,7 @@ fn tell_sum(rt: &HostRuntime, raised: Result<(u64, usize), OutOfMemory>) -> io::
 /// Tells of the text that stands on standard input, and whether it is short enough for a wiring.
 fn tell_input(rt: &HostRuntime) -> io::Result<bool> {
     let text = io::read_to_string(rt.alloc(), rt.stdin())?;
-    if text.len() > 1048576 {
+    if text.len() > MAX_WIRING_TEXT {
         return Ok(false);
     }
     tell_text(rt, text.as_bytes())?;

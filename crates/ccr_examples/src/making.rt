@@ -3,13 +3,9 @@
 ghost use Rattle.std.specs.Prelude.{IfOk, IfNone};
 ghost use Rattle.ccr_wiring.specs.Valid.{IsValid};
 
-use ccr_base::{Group, Handler, List, Name, OutOfMemory, Pattern, Policy, Pred, Slot};
+use ccr_base::{Group, Handler, List, OutOfMemory, Pattern, Policy, Pred, Slot, name_of};
 use ccr_wiring::{ArbiterPart, BranchPart, HandlerPart, Kind, Parts, QueuePart, Unfit, Wiring};
 use std::alloc::Global;
-
-fn name(alloc: Global, bytes: &[u8]) -> Result<Name, OutOfMemory> {
-    Ok(List::from_vec(Vec::from_slice(alloc, bytes)?))
-}
 
 /// A branch `r` that takes so many messages of port `a` at a time, for the handler `h` by the queue `q`.
 fn branch(alloc: Global, count: u32) -> Result<BranchPart, OutOfMemory> {
@@ -21,7 +17,7 @@ fn branch(alloc: Global, count: u32) -> Result<BranchPart, OutOfMemory> {
         pred: Pred::Any,
     })?;
     Ok(BranchPart {
-        name: name(alloc, b"r")?,
+        name: name_of(alloc, b"r")?,
         group: Group::Always,
         queue: 0,
         handler: 0,
@@ -38,7 +34,7 @@ fn add_receiver(
     let mut branches = List::new(alloc);
     branches.add(branch(alloc, count)?)?;
     arbiters.add(ArbiterPart {
-        name: name(alloc, b"r")?,
+        name: name_of(alloc, b"r")?,
         kind: Kind::Receive,
         branches,
     })
@@ -46,14 +42,14 @@ fn add_receiver(
 
 fn add_queue(alloc: Global, queues: &mut List<QueuePart>) -> Result<(), OutOfMemory> {
     queues.add(QueuePart {
-        name: name(alloc, b"q")?,
+        name: name_of(alloc, b"q")?,
         policy: Policy::Unbounded,
     })
 }
 
 fn add_handler(alloc: Global, handlers: &mut List<HandlerPart>) -> Result<(), OutOfMemory> {
     handlers.add(HandlerPart {
-        name: name(alloc, b"h")?,
+        name: name_of(alloc, b"h")?,
         handler: Handler {
             actions: List::new(alloc),
         },
@@ -78,7 +74,7 @@ fn no_parts(alloc: Global) -> Parts {
 
 /// Adds a port, a queue, a handler, and a receiver of them.
 fn add_parts(alloc: Global, parts: &mut Parts, count: u32) -> Result<(), OutOfMemory> {
-    parts.ports.add(name(alloc, b"a")?)?;
+    parts.ports.add(name_of(alloc, b"a")?)?;
     add_queue(alloc, &mut parts.queues)?;
     add_handler(alloc, &mut parts.handlers)?;
     add_receiver(alloc, &mut parts.arbiters, count)

@@ -1,26 +1,18 @@
 //! A wiring is read from its text and run to its end by one thread, and its history is written.
 
 ghost use Rattle.std.specs.Prelude.{◌≡◌, ◌≤◌, length, true, IfOk};
-ghost use Rattle.ccr_base.specs.Bounds.{most_wiring_bytes, most_workers};
+ghost use Rattle.ccr_base.specs.Bounds.{most_wiring_bytes};
 ghost use Rattle.ccr_model.specs.Legal.{IsLegal, IsQuiet, is_complete};
 ghost use Rattle.ccr_examples.specs.Runs.{IsRunOf, IsRunOfText};
 
-use ccr_base::{ActorNo, List, OutOfMemory};
+use ccr_actor::actor_count;
+use ccr_base::{List, OutOfMemory};
 use ccr_model::History;
 use ccr_serial::Serial;
 use ccr_trace::write_history;
 use ccr_wiretext::{ReadRefused, read_wiring};
-use ccr_wiring::{Wiring, valid_wirings_are_sound};
+use ccr_wiring::Wiring;
 use std::alloc::Global;
-
-/// The actor that runs all tasks: the first number behind those of the posters.
-fn closer_of(wiring: &Wiring) -> ActorNo
-    ensures number { result ≡ length wiring.now.posters }
-    ensures low { result ≤ most_workers }
-{
-    valid_wirings_are_sound();
-    wiring.parts().posters.as_slice().len() as ActorNo
-}
 
 /// The history of a run from its beginning until nothing more is allowed.
 fn run_to_the_end(alloc: Global, wiring: &Wiring) -> Result<History, OutOfMemory>
@@ -28,7 +20,8 @@ fn run_to_the_end(alloc: Global, wiring: &Wiring) -> Result<History, OutOfMemory
     ensures complete { IfOk result (λ history. is_complete wiring.now history ≡ true) }
     ensures quiet { IfOk result (IsQuiet wiring.now) }
 {
-    let engine = Serial::start(alloc, wiring, closer_of(wiring))?;
+    // All tasks are run by the actor of the first number behind those of the posters.
+    let engine = Serial::start(alloc, wiring, actor_count(wiring, 0))?;
     engine.finish()
 }
 

@@ -10,14 +10,15 @@ use Rattle.ccr_base.specs.declared.names.Spot.TheVariants.{Branch, Site}
 use Rattle.ccr_base.specs.declared.messages.Msg.{Msg}
 use Rattle.ccr_base.specs.declared.patterns.Pred.TheVariants.{Any}
 use Rattle.ccr_base.specs.Names.{same_message, has_message, same_lists}
-use Rattle.ccr_base.specs.Choice.{fitting, is_choosable, choice}
+use Rattle.ccr_base.specs.Selection.{fitting, is_choosable, selection}
 use Rattle.ccr_model.specs.declared.history.Event.{Event}
 use Rattle.ccr_model.specs.Posts.{posts, taken, held}
-use Rattle.ccr_model.specs.Choice.{names_of, choice_of_slots, is_choice}
+use Rattle.ccr_model.specs.Selection.{names_of, selection_of_slots, is_selection}
 use Rattle.ccr_base.proofs.Booleans.{both}
 use Rattle.ccr_base.proofs.Filters.{filter_swap}
 use Rattle.ccr_model.proofs.FirstNames.{names_of-append, same_names}
 use Rattle.ccr_base.proofs.Options.{some_of}
+use Rattle.ccr_base.proofs.Lists.{all_weaker}
 use Rattle.ccr_model.proofs.SameNames.{same_message-self}
 use Rattle.ccr_model.proofs.TakenOnce.{joined_some}
 use Rattle.ccr_model.proofs.MessageNames.{any_fits}
@@ -54,10 +55,6 @@ pub has_front : (names back : List MsgId) (name : MsgId) → has_message names n
 has_front [] back name is = absurd cc
 has_front (n ∷ names) back name is = grind (arith, has_front names back name)
 
-pub all_weaker : (p q : Msg → Bool) → ((x : Msg) → p x ≡ true → q x ≡ true) → (ms : List Msg) → list_all p ms ≡ true → list_all q ms ≡ true
-all_weaker p q weak [] all = refl
-all_weaker p q weak (x ∷ ms) all = grind (arith, all, weak x, all_weaker p q weak ms)
-
 pub all_named : (ms : List Msg) → list_all (λ (x : Msg). has_message (names_of ms) x.id) ms ≡ true
 all_named [] = refl
 all_named (m ∷ ms) =
@@ -79,32 +76,33 @@ still_open gone names x is = by (has_message gone x.id) refl is
     by true e is = let more = has_front gone names x.id e in absurd (cc)
     by false e is = rw e refl
 
-abbrev at_port : ℕ → Msg → Bool
-at_port port m = m.port == port
+-- the messages of the port
+abbrev pub at : ℕ → Msg → Bool
+at port m = m.port == port
 
 -- messages of one port
 abbrev each : ℕ → ℕ → ℕ
 each w zero = 0
 each w (suc n) = w + each w n
 
-load_each : (port : ℕ) (ms : List Msg) → list_all (at_port port) ms ≡ true → load ms ≡ each (weight port) (length ms)
+load_each : (port : ℕ) (ms : List Msg) → list_all (at port) ms ≡ true → load ms ≡ each (weight port) (length ms)
 load_each port [] all = refl
 load_each port (m ∷ ms) all =
-    let parts = both (at_port port m) (list_all (at_port port) ms) all in
+    let parts = both (at port m) (list_all (at port) ms) all in
     let here : m.port ≡ port = grind (arith, nat_tests, parts.0) in
     rw (here, load_each port ms parts.1) refl
 
-all_at : (port n : ℕ) (ms : List Msg) → list_all (at_port port) (take n (filter (at_port port) ms)) ≡ true
+all_at : (port n : ℕ) (ms : List Msg) → list_all (at port) (take n (filter (at port) ms)) ≡ true
 all_at port zero ms = refl
 all_at port (suc n) [] = refl
-all_at port (suc n) (m ∷ ms) = by (at_port port m) refl (all_at port n ms) (all_at port (suc n) ms)
+all_at port (suc n) (m ∷ ms) = by (at port m) refl (all_at port n ms) (all_at port (suc n) ms)
   where
-    by : (b : Bool) → at_port port m ≡ b → list_all (at_port port) (take n (filter (at_port port) ms)) ≡ true → list_all (at_port port) (take (suc n) (filter (at_port port) ms)) ≡ true → list_all (at_port port) (take (suc n) (filter (at_port port) (m ∷ ms))) ≡ true
+    by : (b : Bool) → at port m ≡ b → list_all (at port) (take n (filter (at port) ms)) ≡ true → list_all (at port) (take (suc n) (filter (at port) ms)) ≡ true → list_all (at port) (take (suc n) (filter (at port) (m ∷ ms))) ≡ true
     by true is less same = rw is (and_from _ _ is less)
     by false is less same = rw (is, same) refl
 
--- the choice of a slot of any messages
-slot_takes : (port count : ℕ) (ms xs : List Msg) → choice (any_of port count) ms ≡ Some xs → (xs ≡ take count ms) × (length xs ≡ count)
+-- the selection of a slot of any messages
+slot_takes : (port count : ℕ) (ms xs : List Msg) → selection (any_of port count) ms ≡ Some xs → (xs ≡ take count ms) × (length xs ≡ count)
 slot_takes port count ms xs is = by (is_choosable (any_of port count) ms) refl is
   where
     by : (b : Bool) → is_choosable (any_of port count) ms ≡ b → (if b then Some (take count (fitting Any ms)) else None) ≡ Some xs → (xs ≡ take count ms) × (length xs ≡ count)
@@ -117,37 +115,37 @@ slot_takes port count ms xs is = by (is_choosable (any_of port count) ms) refl i
         (taken, ap length taken ∙ omega (arith, length-take count ms))
 
 -- a firing whose first slot takes so many of the port takes at least their load off
-first_slot : (port count : ℕ) (h : List Event) (front : List Msg) (back : List MsgId) → choice (any_of port count) (held h port) ≡ Some front
+first_slot : (port count : ℕ) (h : List Event) (front : List Msg) (back : List MsgId) → selection (any_of port count) (held h port) ≡ Some front
     → load (filter (is_open (taken h ++ (names_of front ++ back))) (posts h)) + each (weight port) count ≤ load (filter (is_open (taken h)) (posts h))
 first_slot port count h front back is =
     let gone = taken h in
     let got = slot_takes port count (held h port) front is in
-    let kept = filter (at_port port) (filter (is_open gone) (posts h)) in
-    let swap : held h port ≡ kept = filter_swap (is_open gone) (at_port port) (posts h) in
+    let kept = filter (at port) (filter (is_open gone) (posts h)) in
+    let swap : held h port ≡ kept = filter_swap (is_open gone) (at port) (posts h) in
     let front_is : front ≡ take count kept = got.0 ∙ ap (take count) swap in
     let all : list_all (λ (x : Msg). not (is_open (gone ++ (names_of front ++ back)) x)) (take count kept) ≡ true = subst (λ (ms : List Msg). list_all (λ (x : Msg). not (is_open (gone ++ (names_of front ++ back)) x)) ms ≡ true) front_is (all_gone gone back front) in
-    let less = fall count (is_open gone) (is_open (gone ++ (names_of front ++ back))) (at_port port) (still_open gone (names_of front ++ back)) (posts h) all in
+    let less = fall count (is_open gone) (is_open (gone ++ (names_of front ++ back))) (at port) (still_open gone (names_of front ++ back)) (posts h) all in
     let much : load (take count kept) ≡ each (weight port) count = load_each port (take count kept) (all_at port count (filter (is_open gone) (posts h))) ∙ ap (each (weight port)) (ap length (sym front_is) ∙ got.1) in
     omega (arith, less, much)
 
--- an allowed choice takes off what the firing leads to
-pub fire_falls : (size : ℕ) (h : List Event) (s : Spot) (names : List MsgId) → is_choice (generated size) h s names ≡ true
+-- an allowed selection takes off what the firing leads to
+pub fire_falls : (size : ℕ) (h : List Event) (s : Spot) (names : List MsgId) → is_selection (generated size) h s names ≡ true
     → load (filter (is_open (taken h ++ names)) (posts h)) + value s ≤ load (filter (is_open (taken h)) (posts h))
 fire_falls size h (Site branch site) names is = omega (arith, load_stronger (is_open (taken h)) (is_open (taken h ++ names)) (still_open (taken h) names) (posts h))
 fire_falls size h (Branch (suc (suc (suc branch)))) names is = omega (arith, load_stronger (is_open (taken h)) (is_open (taken h ++ names)) (still_open (taken h) names) (posts h))
 fire_falls size h (Branch zero) names is =
     let slots = any_of 0 1 ∷ any_of 1 1 ∷ [] in
-    let got = some_of (λ (ms : List Msg). same_lists same_message (names_of ms) names) (choice_of_slots (held h) slots) is in
-    let parts = joined_some (choice (any_of 0 1) (held h 0)) (choice_of_slots (held h) (any_of 1 1 ∷ [])) got.0 got.1 in
+    let got = some_of (λ (ms : List Msg). same_lists same_message (names_of ms) names) (selection_of_slots (held h) slots) is in
+    let parts = joined_some (selection (any_of 0 1) (held h 0)) (selection_of_slots (held h) (any_of 1 1 ∷ [])) got.0 got.1 in
     let named : names ≡ names_of parts.0 ++ names_of parts.1 = same_names got.0 names got.2 ∙ (ap names_of (sym parts.4) ∙ names_of-append parts.0 parts.1) in
     rw named (first_slot 0 1 h parts.0 (names_of parts.1) parts.2)
 fire_falls size h (Branch (suc zero)) names is =
-    let got = some_of (λ (ms : List Msg). same_lists same_message (names_of ms) names) (choice_of_slots (held h) (any_of 2 4 ∷ [])) is in
-    let parts = joined_some (choice (any_of 2 4) (held h 2)) (Some []) got.0 got.1 in
+    let got = some_of (λ (ms : List Msg). same_lists same_message (names_of ms) names) (selection_of_slots (held h) (any_of 2 4 ∷ [])) is in
+    let parts = joined_some (selection (any_of 2 4) (held h 2)) (Some []) got.0 got.1 in
     let named : names ≡ names_of parts.0 ++ names_of parts.1 = same_names got.0 names got.2 ∙ (ap names_of (sym parts.4) ∙ names_of-append parts.0 parts.1) in
     rw named (first_slot 2 4 h parts.0 (names_of parts.1) parts.2)
 fire_falls size h (Branch (suc (suc zero))) names is =
-    let got = some_of (λ (ms : List Msg). same_lists same_message (names_of ms) names) (choice_of_slots (held h) (any_of 3 1 ∷ [])) is in
-    let parts = joined_some (choice (any_of 3 1) (held h 3)) (Some []) got.0 got.1 in
+    let got = some_of (λ (ms : List Msg). same_lists same_message (names_of ms) names) (selection_of_slots (held h) (any_of 3 1 ∷ [])) is in
+    let parts = joined_some (selection (any_of 3 1) (held h 3)) (Some []) got.0 got.1 in
     let named : names ≡ names_of parts.0 ++ names_of parts.1 = same_names got.0 names got.2 ∙ (ap names_of (sym parts.4) ∙ names_of-append parts.0 parts.1) in
     rw named (first_slot 3 1 h parts.0 (names_of parts.1) parts.2)

@@ -16,12 +16,12 @@ use Rattle.ccr_model.proofs.Segments.{actions_from-past}
 use Rattle.ccr_gen.specs.Generated.{generated}
 use Rattle.ccr_gen.specs.Weights.{weight, value}
 
-record Pays (spot : Spot) (place : ℕ) (sent : Sent) : Type 0 where
-  first : place ≡ 0
+record Pays (spot : Spot) (index : ℕ) (sent : Sent) : Type 0 where
+  first : index ≡ 0
   worth : 2 + weight sent.port ≤ value spot
 
-none_at : (place : ℕ) (sent : Sent) (C : Type 0) → slice_get {X = Sent} [] place ≡ Some sent → C
-none_at place sent C is = absurd cc
+none_at : (index : ℕ) (sent : Sent) (C : Type 0) → slice_get {X = Sent} [] index ≡ Some sent → C
+none_at index sent C is = absurd cc
 
 worth_of : (port worth : ℕ) (x sent : Sent) → Some x ≡ Some sent → x.port ≡ port → 2 + weight port ≤ worth → 2 + weight sent.port ≤ worth
 worth_of port worth x sent is at less =
@@ -35,25 +35,25 @@ few_actions size (suc zero) = omega arith
 few_actions size (suc (suc zero)) = omega arith
 few_actions size (suc (suc (suc branch))) = omega arith
 
-pays : (size : ℕ) (spot : Spot) (load : Load) (place : ℕ) (sent : Sent) → slice_get (play_at (generated size) (branch_of spot) (segment_of spot) load).posts place ≡ Some sent → Pays spot place sent
-pays size (Site branch site) load place sent is =
+pays : (size : ℕ) (spot : Spot) (load : Load) (index : ℕ) (sent : Sent) → slice_get (play_at (generated size) (branch_of spot) (segment_of spot) load).posts index ≡ Some sent → Pays spot index sent
+pays size (Site branch site) load index sent is =
     let past : actions_from (suc site) (actions_at (generated size) branch) ≡ [] = actions_from-past (suc site) (actions_at (generated size) branch) (omega (arith, few_actions size branch)) in
-    let none : slice_get (play (exception_port (generated size)) load.values (suc site) load.causes []).posts place ≡ Some sent = subst (λ (actions : List Action). slice_get (play (exception_port (generated size)) load.values (suc site) load.causes actions).posts place ≡ Some sent) past is in
-    none_at place sent _ none
+    let none : slice_get (play (exception_port (generated size)) load.values (suc site) load.causes []).posts index ≡ Some sent = subst (λ (actions : List Action). slice_get (play (exception_port (generated size)) load.values (suc site) load.causes actions).posts index ≡ Some sent) past is in
+    none_at index sent _ none
 pays size (Branch zero) load zero sent is = record { first = refl; worth = worth_of 3 4 _ sent is refl (omega arith) }
-pays size (Branch zero) load (suc place) sent is = none_at place sent _ is
+pays size (Branch zero) load (suc index) sent is = none_at index sent _ is
 pays size (Branch (suc zero)) load zero sent is = record { first = refl; worth = worth_of 3 4 _ sent is refl (omega arith) }
-pays size (Branch (suc zero)) load (suc place) sent is = none_at place sent _ is
+pays size (Branch (suc zero)) load (suc index) sent is = none_at index sent _ is
 pays size (Branch (suc (suc zero))) load zero sent is = record { first = refl; worth = worth_of 4 2 _ sent is refl (omega arith) }
-pays size (Branch (suc (suc zero))) load (suc place) sent is = none_at place sent _ is
-pays size (Branch (suc (suc (suc branch)))) load place sent is = none_at place sent _ is
+pays size (Branch (suc (suc zero))) load (suc index) sent is = none_at index sent _ is
+pays size (Branch (suc (suc (suc branch)))) load index sent is = none_at index sent _ is
 
 -- a task that has a post to make fired, at a spot that is worth it
-pub post_pays : (size : ℕ) (h : List Event) (t : TaskId) (place : ℕ) (sent : Sent) → slice_get (play_of (generated size) h t).posts place ≡ Some sent
-    → (f : Firing) × (firing_named h t ≡ Some f) × (place ≡ 0) × (2 + weight sent.port ≤ value f.spot)
-post_pays size h t place sent is = by (firing_named h t) refl is
+pub post_pays : (size : ℕ) (h : List Event) (t : TaskId) (index : ℕ) (sent : Sent) → slice_get (play_of (generated size) h t).posts index ≡ Some sent
+    → (f : Firing) × (firing_named h t ≡ Some f) × (index ≡ 0) × (2 + weight sent.port ≤ value f.spot)
+post_pays size h t index sent is = by (firing_named h t) refl is
   where
-    by : (o : Option Firing) → firing_named h t ≡ o → slice_get (option_map_or (λ spot. play_at (generated size) (branch_of spot) (segment_of spot) (load_at (generated size) h (branch_of spot) (segment_of spot) t)) (option_map (λ (f : Firing). f.spot) o) no_play).posts place ≡ Some sent
-        → (f : Firing) × (firing_named h t ≡ Some f) × (place ≡ 0) × (2 + weight sent.port ≤ value f.spot)
-    by None e is = none_at place sent _ is
-    by (Some f) e is = let paid = pays size f.spot (load_at (generated size) h (branch_of f.spot) (segment_of f.spot) t) place sent is in (f, e, paid.first, paid.worth)
+    by : (o : Option Firing) → firing_named h t ≡ o → slice_get (option_map_or (λ spot. play_at (generated size) (branch_of spot) (segment_of spot) (load_at (generated size) h (branch_of spot) (segment_of spot) t)) (option_map (λ (f : Firing). f.spot) o) no_play).posts index ≡ Some sent
+        → (f : Firing) × (firing_named h t ≡ Some f) × (index ≡ 0) × (2 + weight sent.port ≤ value f.spot)
+    by None e is = none_at index sent _ is
+    by (Some f) e is = let paid = pays size f.spot (load_at (generated size) h (branch_of f.spot) (segment_of f.spot) t) index sent is in (f, e, paid.first, paid.worth)

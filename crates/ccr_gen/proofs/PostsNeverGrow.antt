@@ -85,7 +85,7 @@ post_falls size h m (Task t place) named is =
 falls : (size : ℕ) (h : List Event) (e : Event) → IsAllowed (generated size) h e → Falls size h e
 falls size h (events.Post m) allowed = rw (posts-push, taken-push, firings-push, append-nil, append-nil) (post_falls size h m m.id refl allowed)
 falls size h (events.Fire t s ms cs) allowed =
-    let less = fire_falls size h s ms (FireFacts-allowed (generated size) h t s ms cs allowed).choice_made in
+    let less = fire_falls size h s ms (FireFacts-allowed (generated size) h t s ms cs allowed).selection_made in
     let more = due_firing (posts h) (firings h) (record { task = t; spot = s; messages = ms; cuts = cs }) in
     rw (posts-push, taken-push, firings-push, append-nil) (omega (arith, less, more))
 falls size h (events.Admit t) allowed = rw (posts-push, taken-push, firings-push, append-nil, append-nil, append-nil) (omega arith)

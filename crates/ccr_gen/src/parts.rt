@@ -6,15 +6,10 @@ ghost use Rattle.ccr_gen.specs.Generated.{any_of, queues, ports, handler, handle
 use crate::scripts::posters;
 use ccr_base::{
     Action, Expr, Group, Handler, List, Name, OutOfMemory, Pattern, Policy, PortNo, Pred, Slot,
+    name_of,
 };
 use ccr_wiring::{ArbiterPart, BranchPart, HandlerPart, Kind, MAX_BUDGET, Parts, QueuePart};
 use std::alloc::Global;
-
-fn name(alloc: Global, bytes: &[u8]) -> Result<Name, OutOfMemory>
-    ensures { IfOk result (λ name. name ≡ bytes.now) }
-{
-    Ok(List::from_vec(Vec::from_slice(alloc, bytes)?))
-}
 
 /// So many messages of the port, of any value.
 fn any_of(port: PortNo, count: u32) -> Slot
@@ -32,11 +27,11 @@ fn queues(alloc: Global) -> Result<List<QueuePart>, OutOfMemory>
     ensures { IfOk result (λ parts. parts ≡ queues) }
 {
     let first = QueuePart {
-        name: name(alloc, b"q")?,
+        name: name_of(alloc, b"q")?,
         policy: Policy::Unbounded,
     };
     let second = QueuePart {
-        name: name(alloc, b"t")?,
+        name: name_of(alloc, b"t")?,
         policy: Policy::Throttle(8),
     };
     Ok(List::from_vec(vec![in alloc; first, second]?))
@@ -45,11 +40,11 @@ fn queues(alloc: Global) -> Result<List<QueuePart>, OutOfMemory>
 fn ports(alloc: Global) -> Result<List<Name>, OutOfMemory>
     ensures { IfOk result (λ names. names ≡ ports) }
 {
-    let a = name(alloc, b"a")?;
-    let b = name(alloc, b"b")?;
-    let c = name(alloc, b"c")?;
-    let up = name(alloc, b"up")?;
-    let out = name(alloc, b"out")?;
+    let a = name_of(alloc, b"a")?;
+    let b = name_of(alloc, b"b")?;
+    let c = name_of(alloc, b"c")?;
+    let up = name_of(alloc, b"up")?;
+    let out = name_of(alloc, b"out")?;
     Ok(List::from_vec(vec![in alloc; a, b, c, up, out]?))
 }
 
@@ -58,7 +53,7 @@ fn handler(alloc: Global, bytes: &[u8], action: Action) -> Result<HandlerPart, O
     ensures { IfOk result (λ part. part ≡ handler bytes.now action) }
 {
     Ok(HandlerPart {
-        name: name(alloc, bytes)?,
+        name: name_of(alloc, bytes)?,
         handler: Handler {
             actions: List::from_vec(vec![in alloc; action]?),
         },
@@ -83,7 +78,7 @@ fn arbiter(
     ensures { IfOk result (λ part. part ≡ arbiter bytes.now kind branch) }
 {
     Ok(ArbiterPart {
-        name: name(alloc, bytes)?,
+        name: name_of(alloc, bytes)?,
         kind,
         branches: List::from_vec(vec![in alloc; branch]?),
     })
@@ -93,7 +88,7 @@ fn pair(alloc: Global) -> Result<ArbiterPart, OutOfMemory>
     ensures { IfOk result (λ part. part ≡ pair) }
 {
     let branch = BranchPart {
-        name: name(alloc, b"pair")?,
+        name: name_of(alloc, b"pair")?,
         group: Group::Always,
         queue: 0,
         handler: 0,
@@ -106,7 +101,7 @@ fn batch(alloc: Global) -> Result<ArbiterPart, OutOfMemory>
     ensures { IfOk result (λ part. part ≡ batch) }
 {
     let branch = BranchPart {
-        name: name(alloc, b"batch")?,
+        name: name_of(alloc, b"batch")?,
         group: Group::Always,
         queue: 1,
         handler: 0,
@@ -119,7 +114,7 @@ fn keep(alloc: Global) -> Result<ArbiterPart, OutOfMemory>
     ensures { IfOk result (λ part. part ≡ keep) }
 {
     let branch = BranchPart {
-        name: name(alloc, b"upd")?,
+        name: name_of(alloc, b"upd")?,
         group: Group::Exclusive,
         queue: 0,
         handler: 1,

@@ -3,7 +3,7 @@
 ghost use Rattle.std.specs.Prelude.{◌≡◌, IfOk};
 ghost use Rattle.ccr_gen.specs.Posters.{sent, script, poster, posters};
 
-use ccr_base::{List, OutOfMemory, Sent, Value};
+use ccr_base::{List, OutOfMemory, Sent, Value, name_of};
 use ccr_wiring::{PosterPart, ScriptPost};
 use std::alloc::Global;
 
@@ -35,7 +35,7 @@ fn poster(alloc: Global, size: u32, name: &[u8], number: u32) -> Result<PosterPa
     ensures { IfOk result (λ part. part ≡ poster size name.now number) }
 {
     Ok(PosterPart {
-        name: List::from_vec(Vec::from_slice(alloc, name)?),
+        name: name_of(alloc, name)?,
         posts: script(alloc, size, number)?,
     })
 }

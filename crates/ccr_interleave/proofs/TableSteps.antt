@@ -13,6 +13,7 @@ use Rattle.std.proofs.Math.Bool.{or-true}
 use Rattle.ccr_base.specs.declared.names.TaskId.{TaskId}
 use Rattle.ccr_base.specs.declared.names.Spot.{Spot}
 use Rattle.ccr_base.specs.Names.{same_task, has_task}
+use Rattle.ccr_base.proofs.Options.{not_some}
 use Rattle.ccr_places.specs.Interleaves.{Waiting}
 use Rattle.ccr_places.specs.TaskSets.{task_cmp, len-there, same_task-true, same_task_equiv}
 use Rattle.ccr_places.specs.TaskTables.{tasks_where, kept_of, contains-tasks_where, tasks_where-put, tasks_where-gone, tasks_where-same, len-tasks_where, len-tasks_where-le}
@@ -187,10 +188,6 @@ module _ (old new : List (TaskId × Admission)) (waiting : List Waiting) (shared
 
 -- ---- a task whose name is new
 
-to_none : (kept : Option Admission) → is_some kept ≡ false → kept ≡ None
-to_none None e = refl
-to_none (Some admission) e = absurd (true≢false e)
-
 second_false : (a b : Bool) → (a && not b) ≡ true → b ≡ false
 second_false true true e = absurd (true≢false (sym e))
 second_false true false e = refl
@@ -198,7 +195,7 @@ second_false false b e = absurd (true≢false (sym e))
 
 -- a task may commit only where the table hasn't its name
 pub absent : (table : List (TaskId × Admission)) (task : TaskId) (here : Bool) → (here && not (has_task (keys_of table) task)) ≡ true → kept_of table task ≡ None
-absent table task here new = to_none (kept_of table task) (is_some-lookup (same_task task) table ∙ second_false here (has_task (keys_of table) task) new)
+absent table task here new = not_some (kept_of table task) (is_some-lookup (same_task task) table ∙ second_false here (has_task (keys_of table) task) new)
 
 -- a new name is the last
 pub keys-new : (table : List (TaskId × Admission)) (task : TaskId) (admission : Admission) → kept_of table task ≡ None

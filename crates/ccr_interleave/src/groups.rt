@@ -35,11 +35,17 @@ fn index_of(branches: &[BranchNo], branch: BranchNo) -> Option<usize>
 pub(crate) fn is_concurrent(group: Option<Group>) -> bool
     ensures { result ≡ is_concurrent_group group }
 {
-    matches!(group, Some(Group::Concurrent))
+    match group {
+        Some(group) => ccr_base::is_concurrent(group),
+        None => false,
+    }
 }
 
 pub(crate) fn is_teardown(group: Option<Group>) -> bool
     ensures { result ≡ is_teardown_group group }
 {
-    matches!(group, Some(Group::Teardown))
+    match group {
+        Some(group) => ccr_base::is_teardown(group),
+        None => false,
+    }
 }

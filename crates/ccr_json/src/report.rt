@@ -173,6 +173,7 @@ pub fn counted_json(
     ensures { IfOk result (λ text. (history : Listed SomeEvent) → IsCounted wiring.now history counts.now → text ≡ report_json wiring.now history) }
 {
     names_are_plain();
+    // `parts` says that the wiring is valid.
     let _parts = wiring.parts();
     let value = report_value(alloc, wiring, counts)?;
     line_of(alloc, &value)

@@ -29,7 +29,7 @@ use Rattle.ccr_model.proofs.FiredTasks.{IsFired, IsFired-append, placement_fired
 use Rattle.ccr_model.proofs.ExclusiveRootsAreAlone.{over_stays, lasts_fired, ever_admitted_fired}
 use Rattle.ccr_model.specs.Interleaves.{is_placement_in, is_teardown_in, is_exclusive_in, tears_down, is_of_interleave, is_of_teardown, is_of_exclusive}
 use Rattle.ccr_model.proofs.TaskLists.{has_oldest, of_more, of_one, out_right}
-use Rattle.ccr_model.proofs.TaskPlaces.{ArePlaced-legal, StartFacts-allowed, placement_by}
+use Rattle.ccr_model.proofs.WhoWasPut.{ArePlaced-legal, StartFacts-allowed, placement_by}
 use Rattle.ccr_model.proofs.AllowedFirings.{FiresSo, FiresSo-allowed, BranchFacts, BranchFacts-where, waits_parts, waits_whole}
 use Rattle.ccr_model.proofs.Cutting.{fired_by-append, dead, AdmitFacts-allowed}
 use Rattle.ccr_model.proofs.Roots.{of_firing, other_firing, AreRooted-legal, queued_works, at_work_admitted, placement_of_root, AdmittedFacts-admitted, admitted_whole}
@@ -62,12 +62,12 @@ fires_one w i x s ms cs u is = of_test (is_branch_where w (is_placement_in i) s)
 cuts_all : (w : Parts) (h : List Event) (i : ℕ) (s : Spot) → tears_down w i s ≡ true → cuts_at w h s ≡ waiting w h i
 cuts_all w h i s tears =
     let facts = BranchFacts-where w (is_teardown_in i) s tears in
-    let parts = both (is_placement_in i facts.place) (is_teardown facts.place.branch.group) facts.passes in
-    let number = same_number facts.place.domain i (both (is_interleave facts.place.kind) (facts.place.domain == i) parts.0).1 in
+    let parts = both (is_placement_in i facts.placement) (is_teardown facts.placement.branch.group) facts.passes in
+    let number = same_number facts.placement.domain i (both (is_interleave facts.placement.kind) (facts.placement.domain == i) parts.0).1 in
     at_branch facts parts.1 ∙ ap (λ n. waiting w h n) number
   where
-    at_branch : (facts : BranchFacts w (is_teardown_in i) s) → is_teardown facts.place.branch.group ≡ true → cuts_at w h s ≡ waiting w h facts.place.domain
-    at_branch facts group = rw (facts.is_branch, facts.is_place, group) refl
+    at_branch : (facts : BranchFacts w (is_teardown_in i) s) → is_teardown facts.placement.branch.group ≡ true → cuts_at w h s ≡ waiting w h facts.placement.domain
+    at_branch facts group = rw (facts.is_branch, facts.is_placement, group) refl
 
 torn_fire : (w : Parts) → HasGroups w → (i : ℕ) (h : List Event) (x : TaskId) (s : Spot) (ms : List MsgId) (cs : List TaskId) → IsAllowed w h (Fire x s ms cs) → IsTornDown w i h → IsTornDown w i (h ++ Fire x s ms cs ∷ [])
 torn_fire w groups_fit i h x s ms cs allowed known t f is tears u waits =
@@ -139,8 +139,8 @@ torn_within w h i t is =
 root_tears : (w : Parts) (h : List Event) → IsLegal w h → (i : ℕ) (t : TaskId) → IsFired h t → is_of_teardown w h i t ≡ true → (f : Firing) × (firing_named h (root_of h t) ≡ Some f) × (tears_down w i f.spot ≡ true)
 root_tears w h legal i t fired is =
     let root = AreRooted-legal w h legal t fired.0 fired.1 in
-    let place : placement_of w h t ≡ placement w (branch_of fired.0.spot) = placement_by w h t fired.0 fired.1 in
-    let passes : option_map_or (is_teardown_in i) (placement w (branch_of fired.0.spot)) false ≡ true = sym (ap (λ o. option_map_or (is_teardown_in i) o false) place) ∙ is in
+    let placed : placement_of w h t ≡ placement w (branch_of fired.0.spot) = placement_by w h t fired.0 fired.1 in
+    let passes : option_map_or (is_teardown_in i) (placement w (branch_of fired.0.spot)) false ≡ true = sym (ap (λ o. option_map_or (is_teardown_in i) o false) placed) ∙ is in
     (root.0, root.1, subst (λ s. tears_down w i s ≡ true) (sym root.2) passes)
 
 -- of the events that follow a history: none but the root is admitted, and who starts has it as root
@@ -155,10 +155,10 @@ none_else_kept w groups_fit i r f h e legal allowed named tears known t is = of_
     by_event (Admit x) allowed' new within =
         let facts = AdmitFacts-allowed w h x allowed' in
         let one : t ≡ x = of_one x t new in
-        let place : placement_of w (h ++ Admit x ∷ []) x ≡ Some facts.place = placement_stays w h (Admit x ∷ []) x (placement_fired w h x facts.place facts.is_place) ∙ facts.is_place in
+        let placed : placement_of w (h ++ Admit x ∷ []) x ≡ Some facts.placement = placement_stays w h (Admit x ∷ []) x (placement_fired w h x facts.placement facts.is_placement) ∙ facts.is_placement in
         let within_x : is_of_domain w (h ++ Admit x ∷ []) i x ≡ true = subst (λ y. is_of_domain w (h ++ Admit x ∷ []) i y ≡ true) one within in
-        let there : (facts.place.domain == i) ≡ true = sym (ap (λ o. option_map_or (λ (s : Placement). s.domain == i) o false) place) ∙ within_x in
-        let number = same_number facts.place.domain i there in
+        let there : (facts.placement.domain == i) ≡ true = sym (ap (λ o. option_map_or (λ (s : Placement). s.domain == i) o false) placed) ∙ within_x in
+        let number = same_number facts.placement.domain i there in
         one ∙ IsTornDown-legal w groups_fit i h legal r f named tears x (subst (λ n. has_task (waiting w h n) x ≡ true) number facts.waits)
     by_event (Post m) allowed' new within = absurd (cc)
     by_event (Fire x s ms cs) allowed' new within = absurd (cc)
@@ -174,7 +174,7 @@ none_else_kept w groups_fit i r f h e legal allowed named tears known t is = of_
 starts_own : (w : Parts) (i : ℕ) (r : TaskId) (h : List Event) (t : TaskId) (a : ℕ) → IsLegal w h → IsAllowed w h (Start t a) → ((u : TaskId) → has_task (admitted w h i) u ≡ true → u ≡ r) → IsFired h t × (is_of_interleave w h i t ≡ true → root_of h t ≡ r)
 starts_own w i r h t a legal allowed none_else =
     let facts = StartFacts-allowed w h t a allowed in
-    let work = queued_works w h legal facts.place.branch.queue t (has_oldest (queued w h facts.place.branch.queue) facts.others t facts.is_oldest) in
+    let work = queued_works w h legal facts.placement.branch.queue t (has_oldest (queued w h facts.placement.branch.queue) facts.others t facts.is_oldest) in
     ((ArePlaced-legal w h legal).all_fired t work.put_so, λ within. none_else (root_of h t) (at_work_admitted w h legal i t within work))
 
 own_stays : (w : Parts) (i : ℕ) (r : TaskId) (h es : List Event) (t : TaskId) → IsFired h t × (is_of_interleave w h i t ≡ true → root_of h t ≡ r) → IsFired (h ++ es) t × (is_of_interleave w (h ++ es) i t ≡ true → root_of (h ++ es) t ≡ r)
@@ -205,7 +205,7 @@ pub none_starts : (w : Parts) → HasGroups w → (i : ℕ) (before after : List
 none_starts w groups_fit i before after t a legal torn u within starts =
     let parts = Parted-legal w before (Start t a) after legal in
     let facts = StartFacts-allowed w before t a parts.allowed in
-    let work = queued_works w before parts.legal_before facts.place.branch.queue t (has_oldest (queued w before facts.place.branch.queue) facts.others t facts.is_oldest) in
+    let work = queued_works w before parts.legal_before facts.placement.branch.queue t (has_oldest (queued w before facts.placement.branch.queue) facts.others t facts.is_oldest) in
     let fired_so = (ArePlaced-legal w before parts.legal_before).all_fired t work.put_so in
     let torn_then : is_of_teardown w before i t ≡ true = sym (ap (λ o. option_map_or (is_teardown_in i) o false) (placement_stays w before (Start t a ∷ after) t fired_so)) ∙ torn in
     let r = root_of before t in

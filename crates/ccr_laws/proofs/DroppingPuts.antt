@@ -12,7 +12,7 @@ use Rattle.ccr_model.proofs.LegalParts.{along_legal}
 use Rattle.ccr_model.proofs.SameNames.{same_task-is}
 use Rattle.ccr_base.proofs.Booleans.{refuted, no_both}
 use Rattle.ccr_laws.specs.Drops.{IsDroppedByPut, times_dropped}
-use Rattle.ccr_model.proofs.TaskPlaces.{ArePlaced-legal, new_drop}
+use Rattle.ccr_model.proofs.WhoWasPut.{ArePlaced-legal, new_drop}
 
 -- who was dropped never starts
 pub dropped_unstarted : (w : Parts) (h : List Event) → IsLegal w h → (t : TaskId) → has_task (dropped h) t ≡ true → has_task (started h) t ≡ false

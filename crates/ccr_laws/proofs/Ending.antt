@@ -85,7 +85,7 @@ few_post h m few =
 
 few_fire : (w : Parts) → TakesSome w → (h : List Event) (t : TaskId) (s : Spot) (ms : List MsgId) (cs : List TaskId) → IsAllowed w h (Fire t s ms cs) → AreFew h → AreFew (h ++ Fire t s ms cs ∷ [])
 few_fire w some h t s ms cs allowed few =
-    let less = untaken_fire w some h t s ms cs (FireFacts-allowed w h t s ms cs allowed).choice_made in
+    let less = untaken_fire w some h t s ms cs (FireFacts-allowed w h t s ms cs allowed).selection_made in
     let more : length (firings (h ++ Fire t s ms cs ∷ [])) ≡ length (firings h) + 1 = grind (arith, common_steps) in
     let posts_so : length (posts (h ++ Fire t s ms cs ∷ [])) ≡ length (posts h) = grind (arith, common_steps) in
     record {

@@ -25,7 +25,7 @@ use Rattle.ccr_model.proofs.ExclusiveRootsAreAlone.{is_alone-legal}
 use Rattle.ccr_model.specs.AtWork.{is_at_work}
 use Rattle.ccr_model.specs.Interleaves.{is_placement_in, is_exclusive_in, is_of_interleave, is_of_exclusive}
 use Rattle.ccr_model.proofs.TaskLists.{of_one, only_one, passes_all}
-use Rattle.ccr_model.proofs.TaskPlaces.{ArePlaced-legal}
+use Rattle.ccr_model.proofs.WhoWasPut.{ArePlaced-legal}
 use Rattle.ccr_model.proofs.Roots.{IsAtWork, at_work_admitted, one_at_work, work_so, placement_of_root, admitted_whole}
 
 -- whether the task's branch is concurrent, where it is an exclusive or teardown one of the Interleave

@@ -23,8 +23,9 @@ use Rattle.ccr_model.proofs.SameNames.{same_task-self}
 use Rattle.ccr_model.proofs.TaskLists.{without-append}
 use Rattle.ccr_model.proofs.TasksLeft.{has_task-append}
 
-abbrev names : List Firing → List TaskId
-names fs = map (λ (f : Firing). f.task) fs
+-- the tasks of firings
+abbrev pub tasks_of : List Firing → List TaskId
+tasks_of fs = map (λ (f : Firing). f.task) fs
 
 -- one name more, where those that are gone are left out
 left_one : (x : TaskId) (ts gone : List TaskId) (is : Bool) → has_task gone x ≡ is → length (without (x ∷ ts) gone) ≡ (if is then 0 else 1) + length (without ts gone)
@@ -32,49 +33,49 @@ left_one x ts gone true is = grind (arith, is)
 left_one x ts gone false is = grind (arith, is)
 
 -- one firing more, of which the task is left where the firing passes the test and isn't gone
-left_named : (test : Firing → Bool) (f : Firing) (fs : List Firing) (gone : List TaskId) (p is : Bool) → test f ≡ p → has_task gone f.task ≡ is → length (without (names (filter test (f ∷ fs))) gone) ≡ (if p && not is then 1 else 0) + length (without (names (filter test fs)) gone)
+left_named : (test : Firing → Bool) (f : Firing) (fs : List Firing) (gone : List TaskId) (p is : Bool) → test f ≡ p → has_task gone f.task ≡ is → length (without (tasks_of (filter test (f ∷ fs))) gone) ≡ (if p && not is then 1 else 0) + length (without (tasks_of (filter test fs)) gone)
 left_named test f fs gone true true passes is = grind (arith, passes, is)
 left_named test f fs gone true false passes is = grind (arith, passes, is)
 left_named test f fs gone false is passes gone_is = grind (arith, passes)
 
 -- who is left of those that pass the test is among those that are cut: so both together are no more than all that were left
-left_less : (test : Firing → Bool) (others gone cuts : List TaskId) (fs : List Firing) → ((u : TaskId) → has_task (without (names (filter test fs)) (others ++ gone)) u ≡ true → has_task cuts u ≡ true)
-    → length (without (names (filter test fs)) (others ++ gone)) + length (without (names fs) (gone ++ cuts)) ≤ length (without (names fs) gone)
+left_less : (test : Firing → Bool) (others gone cuts : List TaskId) (fs : List Firing) → ((u : TaskId) → has_task (without (tasks_of (filter test fs)) (others ++ gone)) u ≡ true → has_task cuts u ≡ true)
+    → length (without (tasks_of (filter test fs)) (others ++ gone)) + length (without (tasks_of fs) (gone ++ cuts)) ≤ length (without (tasks_of fs) gone)
 left_less test others gone cuts [] all = omega arith
 left_less test others gone cuts (f ∷ fs) all = by (left_less test others gone cuts fs) (test f) (has_task others f.task) (has_task gone f.task) (has_task cuts f.task) refl refl refl refl
   where
     x : TaskId
     x = f.task
 
-    fewer : (u : TaskId) → has_task (without (names (filter test fs)) (others ++ gone)) u ≡ true → has_task cuts u ≡ true
+    fewer : (u : TaskId) → has_task (without (tasks_of (filter test fs)) (others ++ gone)) u ≡ true → has_task cuts u ≡ true
     fewer u among = all u (of_tests (test f) (has_task (others ++ gone) x) refl refl)
       where
-        of_tests : (p is : Bool) → test f ≡ p → has_task (others ++ gone) x ≡ is → has_task (without (names (filter test (f ∷ fs))) (others ++ gone)) u ≡ true
+        of_tests : (p is : Bool) → test f ≡ p → has_task (others ++ gone) x ≡ is → has_task (without (tasks_of (filter test (f ∷ fs))) (others ++ gone)) u ≡ true
         of_tests false is passes gone_is = rw passes among
         of_tests true true passes gone_is = rw (passes, gone_is) among
-        of_tests true false passes gone_is = rw (passes, gone_is) (or_right (same_task u x) (has_task (without (names (filter test fs)) (others ++ gone)) u) among)
+        of_tests true false passes gone_is = rw (passes, gone_is) (or_right (same_task u x) (has_task (without (tasks_of (filter test fs)) (others ++ gone)) u) among)
 
     taken : test f ≡ true → has_task (others ++ gone) x ≡ false → has_task cuts x ≡ true
-    taken passes out = all x (rw (passes, out) (or_left (same_task x x) (has_task (without (names (filter test fs)) (others ++ gone)) x) (same_task-self x)))
+    taken passes out = all x (rw (passes, out) (or_left (same_task x x) (has_task (without (tasks_of (filter test fs)) (others ++ gone)) x) (same_task-self x)))
 
-    by : (((u : TaskId) → has_task (without (names (filter test fs)) (others ++ gone)) u ≡ true → has_task cuts u ≡ true) → length (without (names (filter test fs)) (others ++ gone)) + length (without (names fs) (gone ++ cuts)) ≤ length (without (names fs) gone))
+    by : (((u : TaskId) → has_task (without (tasks_of (filter test fs)) (others ++ gone)) u ≡ true → has_task cuts u ≡ true) → length (without (tasks_of (filter test fs)) (others ++ gone)) + length (without (tasks_of fs) (gone ++ cuts)) ≤ length (without (tasks_of fs) gone))
         → (p a g c : Bool) → test f ≡ p → has_task others x ≡ a → has_task gone x ≡ g → has_task cuts x ≡ c
-        → length (without (names (filter test (f ∷ fs))) (others ++ gone)) + length (without (names (f ∷ fs)) (gone ++ cuts)) ≤ length (without (names (f ∷ fs)) gone)
+        → length (without (tasks_of (filter test (f ∷ fs))) (others ++ gone)) + length (without (tasks_of (f ∷ fs)) (gone ++ cuts)) ≤ length (without (tasks_of (f ∷ fs)) gone)
     by rest p a g c passes a_is g_is c_is =
         let both : has_task (others ++ gone) x ≡ a || g = rw (has_task-append, a_is, g_is) refl in
         let cut_too : has_task (gone ++ cuts) x ≡ g || c = rw (has_task-append, g_is, c_is) refl in
         let one = left_named test f fs (others ++ gone) p (a || g) passes both in
-        let two = left_one x (names fs) (gone ++ cuts) (g || c) cut_too in
-        let three = left_one x (names fs) gone g g_is in
+        let two = left_one x (tasks_of fs) (gone ++ cuts) (g || c) cut_too in
+        let three = left_one x (tasks_of fs) gone g g_is in
         let old = rest fewer in
         of_values p a g c (λ is out. sym c_is ∙ taken (passes ∙ is) (both ∙ out)) one two three old
       where
         of_values : (p a g c : Bool) → (p ≡ true → a || g ≡ false → c ≡ true)
-            → length (without (names (filter test (f ∷ fs))) (others ++ gone)) ≡ (if p && not (a || g) then 1 else 0) + length (without (names (filter test fs)) (others ++ gone))
-            → length (without (x ∷ names fs) (gone ++ cuts)) ≡ (if g || c then 0 else 1) + length (without (names fs) (gone ++ cuts))
-            → length (without (x ∷ names fs) gone) ≡ (if g then 0 else 1) + length (without (names fs) gone)
-            → length (without (names (filter test fs)) (others ++ gone)) + length (without (names fs) (gone ++ cuts)) ≤ length (without (names fs) gone)
-            → length (without (names (filter test (f ∷ fs))) (others ++ gone)) + length (without (x ∷ names fs) (gone ++ cuts)) ≤ length (without (x ∷ names fs) gone)
+            → length (without (tasks_of (filter test (f ∷ fs))) (others ++ gone)) ≡ (if p && not (a || g) then 1 else 0) + length (without (tasks_of (filter test fs)) (others ++ gone))
+            → length (without (x ∷ tasks_of fs) (gone ++ cuts)) ≡ (if g || c then 0 else 1) + length (without (tasks_of fs) (gone ++ cuts))
+            → length (without (x ∷ tasks_of fs) gone) ≡ (if g then 0 else 1) + length (without (tasks_of fs) gone)
+            → length (without (tasks_of (filter test fs)) (others ++ gone)) + length (without (tasks_of fs) (gone ++ cuts)) ≤ length (without (tasks_of fs) gone)
+            → length (without (tasks_of (filter test (f ∷ fs))) (others ++ gone)) + length (without (x ∷ tasks_of fs) (gone ++ cuts)) ≤ length (without (x ∷ tasks_of fs) gone)
         of_values p true true c known one two three old = grind (arith, one, two, three, old)
         of_values p false true c known one two three old = grind (arith, one, two, three, old)
         of_values p true false true known one two three old = grind (arith, one, two, three, old)

@@ -32,7 +32,7 @@ use Rattle.ccr_laws.specs.Drops.{DropsOldest}
 use Rattle.ccr_laws.proofs.LegalEventsWereAllowed.{allowed_at, legal_past}
 use Rattle.ccr_model.proofs.TaskLists.{not_more, not_within}
 use Rattle.ccr_model.proofs.AllowedDrops.{put_allowed, drop_allowed}
-use Rattle.ccr_model.proofs.TaskPlaces.{ArePlaced-legal, PutFacts-allowed, new_drop}
+use Rattle.ccr_model.proofs.WhoWasPut.{ArePlaced-legal, PutFacts-allowed, new_drop}
 use Rattle.ccr_model.proofs.AllowedFirings.{FiresSo-allowed}
 use Rattle.ccr_model.proofs.Queued.{queued-other, new_unput}
 

@@ -17,7 +17,7 @@ use Rattle.ccr_model.specs.declared.history.Event.TheVariants.{Fire}
 use Rattle.ccr_base.specs.Names.{same_message, has_message}
 use Rattle.ccr_wiring.specs.Valid.{IsValid}
 use Rattle.ccr_model.specs.Posts.{posts, posted, taken, held}
-use Rattle.ccr_model.specs.Choice.{names_of}
+use Rattle.ccr_model.specs.Selection.{names_of}
 use Rattle.ccr_model.specs.Legal.{IsLegal}
 use Rattle.ccr_model.proofs.SameNames.{same_message-is}
 use Rattle.ccr_base.proofs.Booleans.{either, or_assoc, same_number}

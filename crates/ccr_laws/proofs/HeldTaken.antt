@@ -1,5 +1,5 @@
 -- Each message of a legal history is held or taken, and none twice.
-use Rattle.std.proofs.Common.{◌≡◌, ◌+◌, ◌<◌, ◌≤◌, Bool, true, false, not, ◌||◌, List, [], ◌∷◌, ◌++◌, length, filter, refl, sym, ◌∙◌, subst, append-nil, arith}
+use Rattle.std.proofs.Common.{◌≡◌, ◌+◌, ◌<◌, ◌≤◌, Bool, true, false, not, ◌||◌, List, [], ◌∷◌, ◌++◌, length, refl, sym, ◌∙◌, subst, append-nil, arith}
 use Rattle.std.specs.Prelude.{if◌then◌else◌}
 use Rattle.std.proofs.lemmas.Grind.{common_steps}
 use Rattle.ccr_base.specs.declared.names.MsgId.{MsgId}
@@ -17,14 +17,10 @@ use Rattle.ccr_model.specs.Legal.{IsAllowed, IsLegal}
 use Rattle.ccr_model.proofs.PostNames.{along, times, posted_once, times_more}
 use Rattle.ccr_model.proofs.OneMoreEvent.{posts-push}
 use Rattle.ccr_model.proofs.SameNames.{same_message-is, same_message-self}
-use Rattle.ccr_model.proofs.TakenOnce.{FireFacts-allowed, named-choice, taken-push, taken_once, times-filter, times_named, untaken}
-use Rattle.ccr_model.proofs.MessageNames.{named_some, has_message-append}
+use Rattle.ccr_model.proofs.TakenOnce.{FireFacts-allowed, named-selection, taken-push, taken_once, times-filter, times_named, untaken}
+use Rattle.ccr_model.proofs.MessageNames.{named_some, has_message-append, left_by}
 
--- the messages that these names leave
-abbrev left_of : List MsgId → List Msg → List Msg
-left_of names ms = filter (λ (m : Msg). not (has_message names m.id)) ms
-
-left_whole : (ms : List Msg) → length (left_of [] ms) ≡ length ms
+left_whole : (ms : List Msg) → length (left_by [] ms) ≡ length ms
 left_whole [] = refl
 left_whole (m ∷ ms) = grind (arith, left_whole ms)
 
@@ -43,11 +39,11 @@ not_in_rest n names once = by names (grind (arith, named_cons n n names, same_me
     by (x ∷ ns) none = grind (arith, named_cons n x ns, none, by ns)
 
 -- one more name drops what bears it
-one_drops : (n : MsgId) (names : List MsgId) (ms : List Msg) → has_message names n ≡ false → length (left_of (n ∷ names) ms) + times n ms ≡ length (left_of names ms)
+one_drops : (n : MsgId) (names : List MsgId) (ms : List Msg) → has_message names n ≡ false → length (left_by (n ∷ names) ms) + times n ms ≡ length (left_by names ms)
 one_drops n names [] new = omega arith
 one_drops n names (x ∷ ms) new = by (same_message x.id n) (has_message names x.id) refl refl (one_drops n names ms new) (times_cons n x ms)
   where
-    by : (a b : Bool) → same_message x.id n ≡ a → has_message names x.id ≡ b → length (left_of (n ∷ names) ms) + times n ms ≡ length (left_of names ms) → times n (x ∷ ms) ≡ (if same_message x.id n then 1 else 0) + times n ms → length (left_of (n ∷ names) (x ∷ ms)) + times n (x ∷ ms) ≡ length (left_of names (x ∷ ms))
+    by : (a b : Bool) → same_message x.id n ≡ a → has_message names x.id ≡ b → length (left_by (n ∷ names) ms) + times n ms ≡ length (left_by names ms) → times n (x ∷ ms) ≡ (if same_message x.id n then 1 else 0) + times n ms → length (left_by (n ∷ names) (x ∷ ms)) + times n (x ∷ ms) ≡ length (left_by names (x ∷ ms))
     by true true ea eb rest sum =
         let same : x.id ≡ n = same_message-is x.id n ea in
         let there : has_message names n ≡ true = subst (λ (y : MsgId). has_message names y ≡ true) same eb in
@@ -57,7 +53,7 @@ one_drops n names (x ∷ ms) new = by (same_message x.id n) (has_message names x
     by false false ea eb rest sum = rw (sum, ea, eb) (omega (arith, rest))
 
 -- distinct names of messages drop one each
-names_drop : (names : List MsgId) (ms : List Msg) → ((name : MsgId) → times_named name names ≤ 1) → ((name : MsgId) → has_message names name ≡ true → times name ms ≡ 1) → length (left_of names ms) + length names ≡ length ms
+names_drop : (names : List MsgId) (ms : List Msg) → ((name : MsgId) → times_named name names ≤ 1) → ((name : MsgId) → has_message names name ≡ true → times name ms ≡ 1) → length (left_by names ms) + length names ≡ length ms
 names_drop [] ms once some = omega (arith, left_whole ms)
 names_drop (n ∷ names) ms once some =
     let new = not_in_rest n names (once n) in
@@ -74,7 +70,7 @@ names_drop (n ∷ names) ms once some =
         by false = is
 
 -- what was taken was posted
-abbrev ArePosted : List Event → Type 0
+abbrev pub ArePosted : List Event → Type 0
 ArePosted h = (name : MsgId) → has_message (taken h) name ≡ true → 0 < times name (posts h)
 
 fire_posted : (w : Parts) → HasPortsApart w → (h : List Event) (t : TaskId) (spot : Spot) (names : List MsgId) (cs : List TaskId) → IsAllowed w h (events.Fire t spot names cs) → ArePosted h → (name : MsgId) → has_message (taken h ++ names) name ≡ true → 0 < times name (posts h)
@@ -85,7 +81,7 @@ fire_posted w apart h t spot names cs allowed old name is = by (has_message (tak
     by false e any =
         let there : has_message names name ≡ true = subst (λ (b : Bool). b || has_message names name ≡ true) e any in
         let some = named_some name names there in
-        let among = named-choice w h spot name names apart (FireFacts-allowed w h t spot names cs allowed).choice_made in
+        let among = named-selection w h spot name names apart (FireFacts-allowed w h t spot names cs allowed).selection_made in
         let all = times-filter name (λ (m : Msg). not (has_message (taken h) m.id)) (posts h) in
         omega (arith, some, among, all)
 

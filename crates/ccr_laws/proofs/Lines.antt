@@ -18,7 +18,7 @@ use Rattle.ccr_model.specs.declared.history.Event.TheVariants.{Post, Fire, Admit
 use Rattle.ccr_model.specs.Posts.{posts, is_script_of, is_task_message, posts_of_poster}
 use Rattle.ccr_model.specs.Rules.{refusal_of_post, is_post, is_script_line, is_play_post, has_budget}
 use Rattle.ccr_model.specs.Legal.{IsAllowed, IsLegal}
-use Rattle.ccr_model.proofs.PostNames.{along, refused_not}
+use Rattle.ccr_model.proofs.PostNames.{along, refused_not, task_messages}
 use Rattle.ccr_model.proofs.OneMoreEvent.{posts-push}
 use Rattle.ccr_base.proofs.Options.{some_of, some_then, some-below}
 use Rattle.ccr_base.proofs.Booleans.{both, eq-self}
@@ -36,14 +36,11 @@ lines_left ms number (poster ∷ posters) = (length poster.posts - lines_of ms n
 abbrev pub script_messages : List Msg → ℕ
 script_messages ms = length (filter (λ (m : Msg). not (is_task_message m.id)) ms)
 
-abbrev pub task_messages : List Msg → ℕ
-task_messages ms = length (filter (λ (m : Msg). is_task_message m.id) ms)
-
 both_kinds : (ms : List Msg) → length ms ≡ script_messages ms + task_messages ms
 both_kinds [] = refl
 both_kinds (m ∷ ms) = grind (arith, both_kinds ms)
 
-lines_more : (ms : List Msg) (m : Msg) (n : ℕ) → lines_of (ms ++ m ∷ []) n ≡ lines_of ms n + (if is_script_of n m.id then 1 else 0)
+pub lines_more : (ms : List Msg) (m : Msg) (n : ℕ) → lines_of (ms ++ m ∷ []) n ≡ lines_of ms n + (if is_script_of n m.id then 1 else 0)
 lines_more ms m n = grind (arith, common_steps)
 
 -- no post gives a line back

@@ -16,10 +16,10 @@ use Rattle.ccr_wiring.specs.declared.parts.Parts.{Parts}
 use Rattle.ccr_model.specs.declared.history.Event.{Event}
 use Rattle.ccr_model.specs.declared.history.Event.TheVariants.{Post, Fire}
 use Rattle.ccr_base.specs.Names.{same_message, same_lists, has_message}
-use Rattle.ccr_base.specs.Choice.{fitting, is_choosable, choice}
+use Rattle.ccr_base.specs.Selection.{fitting, is_choosable, selection}
 use Rattle.ccr_wiring.specs.Wirings.{Placement, placement, site_port}
 use Rattle.ccr_model.specs.Posts.{posts, taken, held}
-use Rattle.ccr_model.specs.Choice.{names_of, choice_of_slots, are_first, are_split, is_choice_of, are_oldest, is_choice}
+use Rattle.ccr_model.specs.Selection.{names_of, selection_of_slots, are_first, are_split, is_selection_of, are_oldest, is_selection}
 use Rattle.ccr_model.proofs.Allowing.{filter_head}
 use Rattle.ccr_model.proofs.Members.{Among, Among-left, Among-right}
 use Rattle.ccr_model.proofs.TakenOnce.{joined_some, untaken}
@@ -39,7 +39,7 @@ one_taken n least [] some most enough = absurd (grind (arith, nat_tests))
 one_taken zero least (m ∷ rest) some most enough = absurd (grind (arith, nat_tests))
 one_taken (suc n) least (m ∷ rest) some most enough = (m, rest, refl, inl refl)
 
-slot_takes : (slot : Slot) (ms xs : List Msg) → nat_le 1 slot.least && nat_le 1 slot.most ≡ true → choice slot ms ≡ Some xs → (m : Msg) × Among m ms × Among m xs
+slot_takes : (slot : Slot) (ms xs : List Msg) → nat_le 1 slot.least && nat_le 1 slot.most ≡ true → selection slot ms ≡ Some xs → (m : Msg) × Among m ms × Among m xs
 slot_takes slot ms xs some is = of_test (is_choosable slot ms) refl is
   where
     of_test : (b : Bool) → is_choosable slot ms ≡ b → (if b then Some (take slot.most (fitting slot.pred ms)) else None) ≡ Some xs → (m : Msg) × Among m ms × Among m xs
@@ -50,13 +50,13 @@ slot_takes slot ms xs some is = of_test (is_choosable slot ms) refl is
         let same : take slot.most (fitting slot.pred ms) ≡ xs = cc in
         (one.0, filter_head _ ms one.0 one.1 one.2, subst (λ ys. Among one.0 ys) same one.3)
 
-slots_take : (at : ℕ → List Msg) (slots : List Slot) (xs : List Msg) → takes_some (Slots slots) ≡ true → choice_of_slots at slots ≡ Some xs → (port : ℕ) × (m : Msg) × Among m (at port) × Among m xs
+slots_take : (at : ℕ → List Msg) (slots : List Slot) (xs : List Msg) → takes_some (Slots slots) ≡ true → selection_of_slots at slots ≡ Some xs → (port : ℕ) × (m : Msg) × Among m (at port) × Among m xs
 slots_take at [] xs some is = absurd (cc)
 slots_take at (slot ∷ slots) xs some is =
-    let parts = joined_some (choice slot (at slot.port)) (choice_of_slots at slots) xs is in
+    let parts = joined_some (selection slot (at slot.port)) (selection_of_slots at slots) xs is in
     of_test parts.0 parts.1 parts.2 parts.4 (nat_le 1 slot.least && nat_le 1 slot.most) refl some (λ later. slots_take at slots parts.1 later parts.3)
   where
-    of_test : (front back : List Msg) → choice slot (at slot.port) ≡ Some front → front ++ back ≡ xs → (b : Bool) → nat_le 1 slot.least && nat_le 1 slot.most ≡ b → b || takes_some (Slots slots) ≡ true → (takes_some (Slots slots) ≡ true → (port : ℕ) × (m : Msg) × Among m (at port) × Among m back) → (port : ℕ) × (m : Msg) × Among m (at port) × Among m xs
+    of_test : (front back : List Msg) → selection slot (at slot.port) ≡ Some front → front ++ back ≡ xs → (b : Bool) → nat_le 1 slot.least && nat_le 1 slot.most ≡ b → b || takes_some (Slots slots) ≡ true → (takes_some (Slots slots) ≡ true → (port : ℕ) × (m : Msg) × Among m (at port) × Among m back) → (port : ℕ) × (m : Msg) × Among m (at port) × Among m xs
     of_test front back here whole true takes any rest =
         let one = slot_takes slot (at slot.port) front takes here in
         (slot.port, one.0, one.1, subst (λ ys. Among one.0 ys) whole (Among-left one.0 front back one.2))
@@ -88,10 +88,10 @@ gather_named : (at : ℕ → List Msg) (total p q : ℕ) (names : List MsgId) �
 gather_named at total p q [] some is = let parts = both (0 == total) (are_split (at p) (at q) []) is in absurd (grind (arith, nat_tests, some, parts.0))
 gather_named at total p q (n ∷ names) some is = let parts = both (length (n ∷ names) == total) (are_split (at p) (at q) (n ∷ names)) is in split_named at p q (at p) refl n names parts.1
 
-pattern_named : (at : ℕ → List Msg) (p : Pattern) (names : List MsgId) → takes_some p ≡ true → is_choice_of at p names ≡ true → NamesOne at names
-pattern_named at (Slots slots) names some is = of_option (choice_of_slots at slots) refl is
+pattern_named : (at : ℕ → List Msg) (p : Pattern) (names : List MsgId) → takes_some p ≡ true → is_selection_of at p names ≡ true → NamesOne at names
+pattern_named at (Slots slots) names some is = of_option (selection_of_slots at slots) refl is
   where
-    of_option : (o : Option (List Msg)) → choice_of_slots at slots ≡ o → option_map_or (λ messages. same_lists same_message (names_of messages) names) o false ≡ true → NamesOne at names
+    of_option : (o : Option (List Msg)) → selection_of_slots at slots ≡ o → option_map_or (λ messages. same_lists same_message (names_of messages) names) o false ≡ true → NamesOne at names
     of_option None e same = absurd (cc)
     of_option (Some xs) e same =
         let one = slots_take at slots xs some e in
@@ -105,14 +105,14 @@ oldest_named at port (n ∷ names) is =
     let one = first_named (at port) n names parts.1 in
     record { port = port; message = one.0; there = one.1; named = one.2 }
 
--- a choice names a message that its port holds
-pub choice_named : (w : Parts) → TakesSome w → (h : List Event) (s : Spot) (names : List MsgId) → is_choice w h s names ≡ true → NamesOne (held h) names
-choice_named w some h (Branch b) names is = of_option (placement w b) refl is
+-- a selection names a message that its port holds
+pub selection_named : (w : Parts) → TakesSome w → (h : List Event) (s : Spot) (names : List MsgId) → is_selection w h s names ≡ true → NamesOne (held h) names
+selection_named w some h (Branch b) names is = of_option (placement w b) refl is
   where
-    of_option : (o : Option Placement) → placement w b ≡ o → option_map_or (λ (s : Placement). is_choice_of (held h) s.branch.pattern names) o false ≡ true → NamesOne (held h) names
+    of_option : (o : Option Placement) → placement w b ≡ o → option_map_or (λ (s : Placement). is_selection_of (held h) s.branch.pattern names) o false ≡ true → NamesOne (held h) names
     of_option None e chosen = absurd (cc)
     of_option (Some s) e chosen = pattern_named (held h) s.branch.pattern names (some b s e) chosen
-choice_named w some h (Site b k) names is = of_option (site_port w b k) is
+selection_named w some h (Site b k) names is = of_option (site_port w b k) is
   where
     of_option : (o : Option ℕ) → option_map_or (λ port. are_oldest (held h port) names) o false ≡ true → NamesOne (held h) names
     of_option None chosen = absurd (cc)
@@ -135,9 +135,9 @@ one_less port p q weaker m out (x ∷ ms) among = of_tests (x.port == port) (p x
 pub untaken_post : (h : List Event) (m : Msg) → length (untaken (h ++ Post m ∷ [])) ≤ length (untaken h) + 1
 untaken_post h m = grind (arith, common_steps)
 
-pub untaken_fire : (w : Parts) → TakesSome w → (h : List Event) (t : TaskId) (s : Spot) (names : List MsgId) (cs : List TaskId) → is_choice w h s names ≡ true → length (untaken (h ++ Fire t s names cs ∷ [])) + 1 ≤ length (untaken h)
+pub untaken_fire : (w : Parts) → TakesSome w → (h : List Event) (t : TaskId) (s : Spot) (names : List MsgId) (cs : List TaskId) → is_selection w h s names ≡ true → length (untaken (h ++ Fire t s names cs ∷ [])) + 1 ≤ length (untaken h)
 untaken_fire w some h t s names cs is =
-    let one = choice_named w some h s names is in
+    let one = selection_named w some h s names is in
     let gone : not (has_message (taken h ++ names) one.message.id) ≡ false = grind (arith, common_steps, one.named) in
     let less = one_less one.port (λ m. not (has_message (taken h) m.id)) (λ m. not (has_message (taken h ++ names) m.id)) (λ m. stronger (taken h) m.id) one.message gone (posts h) one.there in
     grind (arith, common_steps, less)

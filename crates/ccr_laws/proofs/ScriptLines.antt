@@ -21,8 +21,8 @@ use Rattle.ccr_model.specs.Posts.{post_of, posts_of_poster, is_script_of}
 use Rattle.ccr_model.specs.Rules.{is_post, is_script_line, refusal_of_post}
 use Rattle.ccr_model.specs.Legal.{IsAllowed, IsLegal, is_complete, are_whole_from}
 use Rattle.ccr_base.proofs.Booleans.{both, same_number}
-use Rattle.ccr_model.proofs.ListParts.{take_more}
-use Rattle.ccr_base.proofs.Options.{some_of}
+use Rattle.ccr_base.proofs.Options.{some_of, get-push}
+use Rattle.ccr_base.proofs.Lists.{take_more}
 use Rattle.ccr_model.proofs.PostNames.{along, refused_not}
 use Rattle.ccr_model.proofs.OneMoreEvent.{posts-push}
 use Rattle.ccr_laws.specs.Scripts.{posts_by, sent_of, FollowsScript}
@@ -47,17 +47,6 @@ sent-post m s is =
     let causes : m.causes ≡ s.causes = same_causes m.causes s.causes parts.1 in
     rw (port, value, causes) refl
 
--- an item of a list with one more is one of the list's, or the last
-get-last : {X : Type 0} (xs : List X) (x y : X) (k : ℕ) → slice_get (xs ++ x ∷ []) k ≡ Some y → (slice_get xs k ≡ Some y) ⊎ ((k ≡ length xs) × (x ≡ y))
-get-last [] x y zero at = inr (refl, cc)
-get-last [] x y (suc k) at = absurd (cc)
-get-last (z ∷ xs) x y zero at = inl at
-get-last (z ∷ xs) x y (suc k) at = of_either (get-last xs x y k at)
-  where
-    of_either : (slice_get xs k ≡ Some y) ⊎ ((k ≡ length xs) × (x ≡ y)) → (slice_get xs k ≡ Some y) ⊎ ((suc k ≡ suc (length xs)) × (x ≡ y))
-    of_either (inl there) = inl there
-    of_either (inr last) = inr (ap suc last.0, last.1)
-
 -- so do all posters
 abbrev AllFollow : Parts → List Event → Type 0
 AllFollow w h = (n : ℕ) (p : PosterPart) → slice_get w.posters n ≡ Some p → FollowsScript h n p.posts
@@ -78,7 +67,7 @@ follows-same h g n script same follows = record {
 follows-line : (h : List Event) (m : Msg) (n : ℕ) (p : PosterPart) (s : Sent) → m.id ≡ Script n (posts_of_poster h n) → slice_get p.posts (posts_of_poster h n) ≡ Some s → is_post m s ≡ true → FollowsScript h n p.posts → FollowsScript (h ++ Post m ∷ []) n p.posts
 follows-line h m n p s named at is follows = record {
   lines = subst (λ ms. map sent_of ms ≡ take (length ms) p.posts) (sym more) (rw (map-append, length-append, sent-post m s is, follows.lines) (sym (take_more p.posts (length (posts_by h n)) s at)));
-  names = λ place y there. of_either place y (get-last (posts_by h n) m y place (subst (λ ms. slice_get ms place ≡ Some y) more there));
+  names = λ place y there. of_either place y (get-push (posts_by h n) m y place (subst (λ ms. slice_get ms place ≡ Some y) more there));
 }
   where
     own : is_script_of n m.id ≡ true
@@ -103,10 +92,10 @@ follows-post w h m (Script a k) named allowed follow n p at = of_test (a == n) r
     of_test true is =
         let one : a ≡ n = same_number a n is in
         let parts = both (k == posts_of_poster h a) (option_map_or (is_post m) (option_and_then (λ (q : PosterPart). slice_get q.posts k) (slice_get w.posters a)) false) line in
-        let place : k ≡ posts_of_poster h n = same_number k (posts_of_poster h a) parts.0 ∙ ap (posts_of_poster h) one in
+        let next : k ≡ posts_of_poster h n = same_number k (posts_of_poster h a) parts.0 ∙ ap (posts_of_poster h) one in
         let sent = some_of (is_post m) (option_and_then (λ (q : PosterPart). slice_get q.posts k) (slice_get w.posters a)) parts.1 in
         let there : slice_get p.posts k ≡ Some sent.0 = sym (ap (option_and_then (λ (q : PosterPart). slice_get q.posts k)) (ap (slice_get w.posters) one ∙ at)) ∙ sent.1 in
-        follows-line h m n p sent.0 (named ∙ rw (one, place) refl) (subst (λ i. slice_get p.posts i ≡ Some sent.0) place there) sent.2 (follow n p at)
+        follows-line h m n p sent.0 (named ∙ rw (one, next) refl) (subst (λ i. slice_get p.posts i ≡ Some sent.0) next there) sent.2 (follow n p at)
 
 follows-event : (w : Parts) (h : List Event) (e : Event) → AllFollow w h → IsAllowed w h e → AllFollow w (h ++ e ∷ [])
 follows-event w h (Post m) follow allowed n p at = follows-post w h m m.id refl allowed follow n p at

@@ -91,10 +91,10 @@ choice_group kinds.Choice groups.Concurrent is may = absurd (cc)
 choice_first : (w : Parts) → IsValid w → (number : ℕ) (arbiter : ArbiterPart) → slice_get w.arbiters number ≡ Some arbiter → arbiter.kind ≡ kinds.Choice → (h : List Event) (s : Spot) → is_live w h s ≡ true → is_branch_where w (λ (s : Placement). s.domain == number) s ≡ true → length (fired_by w (λ (s : Placement). s.domain == number) h) ≡ 0
 choice_first w valid number arbiter at kind h s live is =
     let at_branch = BranchFacts-where w (λ (s : Placement). s.domain == number) s is in
-    let its = at_branch.place in
+    let its = at_branch.placement in
     let live_so = live_at w h (λ (s : Placement). s.domain == number) s at_branch live in
     let same : its.domain ≡ number = same_number its.domain number at_branch.passes in
-    let group : its.branch.group ≡ groups.Choice = choice_group its.kind its.branch.group (kind_of w (sound w valid).domains number arbiter at_branch.number its at at_branch.is_place same ∙ kind) ((sound w valid).groups at_branch.number its at_branch.is_place) in
+    let group : its.branch.group ≡ groups.Choice = choice_group its.kind its.branch.group (kind_of w (sound w valid).domains number arbiter at_branch.number its at at_branch.is_placement same ∙ kind) ((sound w valid).groups at_branch.number its at_branch.is_placement) in
     let none : is_live_in w h at_branch.number number groups.Choice ≡ true = subst (λ n. is_live_in w h at_branch.number n groups.Choice ≡ true) same (subst (λ g. is_live_in w h at_branch.number its.domain g ≡ true) group live_so) in
     none_there (fired_by w (λ (s : Placement). s.domain == number) h) none
 
@@ -126,7 +126,7 @@ teardown_group groups.Concurrent is = absurd (cc)
 teardown_first : (w : Parts) (i : ℕ) (h : List Event) (s : Spot) → is_live w h s ≡ true → is_branch_where w (λ (s : Placement). (s.domain == i) && is_teardown s.branch.group) s ≡ true → length (fired_by w (λ (s : Placement). (s.domain == i) && is_teardown s.branch.group) h) ≡ 0
 teardown_first w i h s live is =
     let at_branch = BranchFacts-where w (λ (s : Placement). (s.domain == i) && is_teardown s.branch.group) s is in
-    let its = at_branch.place in
+    let its = at_branch.placement in
     let live_so = live_at w h (λ (s : Placement). (s.domain == i) && is_teardown s.branch.group) s at_branch live in
     let parts = both (its.domain == i) (is_teardown its.branch.group) at_branch.passes in
     let same : its.domain ≡ i = same_number its.domain i parts.0 in

@@ -19,7 +19,7 @@ use Rattle.ccr_base.proofs.Filters.{filter_swap}
 use Rattle.ccr_model.proofs.FiredTasks.{IsFired, placement_stays}
 use Rattle.ccr_laws.specs.Queues.{started_from, stands_before}
 use Rattle.ccr_model.proofs.TaskLists.{filter_append, without-append, without_none, without_other, without_first, of_more, not_more, not_within}
-use Rattle.ccr_model.proofs.TaskPlaces.{AreApart, ArePlaced, ArePlaced_kept, ArePlaced-none, ArePlaced-legal, StartFacts, StartFacts-allowed, PutFacts-allowed, QueuedFacts-queued, put_fired, new_drop}
+use Rattle.ccr_model.proofs.WhoWasPut.{AreApart, ArePlaced, ArePlaced_kept, ArePlaced-none, ArePlaced-legal, StartFacts, StartFacts-allowed, PutFacts-allowed, QueuedFacts-queued, put_fired, new_drop}
 
 -- who of the tested ones started, then who is queued: who was put and not dropped
 abbrev IsOrder : (TaskId → Bool) → List TaskId → List TaskId → List TaskId → Type 0
@@ -81,8 +81,8 @@ order_start w q h t a allowed known is =
   where
     oldest : (facts : StartFacts w h t) → is_for_queue w h q t ≡ true → queued w h q ≡ t ∷ facts.others
     oldest facts passes =
-        let there : (facts.place.branch.queue == q) ≡ true = rw facts.is_place at passes in
-        let same = same_number facts.place.branch.queue q there in
+        let there : (facts.placement.branch.queue == q) ≡ true = rw facts.is_placement at passes in
+        let same = same_number facts.placement.branch.queue q there in
         subst (λ n. queued w h n ≡ t ∷ facts.others) same facts.is_oldest
 
 order_put : (w : Parts) (q : ℕ) (h : List Event) (t : TaskId) (d : Option TaskId) → IsAllowed w h (Put t d) → ArePlaced h → IsOrderOf w q h → IsOrder (is_for_queue w h q) (put (h ++ Put t d ∷ [])) (started (h ++ Put t d ∷ [])) (dropped (h ++ Put t d ∷ []))

@@ -26,7 +26,7 @@ use Rattle.ccr_model.specs.Interleaves.{is_placement_in}
 use Rattle.ccr_laws.specs.OneFate.{Waits, IsQueued, HasEnded, IsIn}
 use Rattle.ccr_laws.proofs.LegalEventsWereAllowed.{allowed_at}
 use Rattle.ccr_model.proofs.TaskLists.{to_filter, to_without, among_left, not_more, not_within}
-use Rattle.ccr_model.proofs.TaskPlaces.{ArePlaced-legal, QueuedFacts-queued, PutFacts-may}
+use Rattle.ccr_model.proofs.WhoWasPut.{ArePlaced-legal, QueuedFacts-queued, PutFacts-may}
 use Rattle.ccr_model.proofs.AllowedFirings.{WaitingFacts-waiting, waits_whole, waits_outside, fired_by_has}
 use Rattle.ccr_model.proofs.Cutting.{CutFacts-legal, cut_not_put, waits_unput}
 use Rattle.ccr_model.proofs.Ending.{RunningFacts, RunningFacts-running, RunningFacts-allowed}

@@ -17,12 +17,12 @@ use Rattle.ccr_wiring.specs.declared.parts.Parts.{Parts}
 use Rattle.ccr_model.specs.declared.history.Event.{Event}
 use Rattle.ccr_model.specs.declared.history.Event.TheVariants.{Fire}
 use Rattle.ccr_base.specs.Names.{same_message, same_lists}
-use Rattle.ccr_base.specs.Choice.{holds, fitting, is_choosable, choice}
+use Rattle.ccr_base.specs.Selection.{holds, fitting, is_choosable, selection}
 use Rattle.ccr_wiring.specs.Wirings.{Placement, placement, site_port}
 use Rattle.ccr_wiring.specs.Valid.{IsValid, IsSlotFilled, IsPatternFilled}
 use Rattle.ccr_wiring.proofs.Soundness.{sound}
 use Rattle.ccr_model.specs.Posts.{held}
-use Rattle.ccr_model.specs.Choice.{names_of, joined, choice_of_slots, are_first, are_split, is_choice_of, are_oldest, is_choice}
+use Rattle.ccr_model.specs.Selection.{names_of, joined, selection_of_slots, are_first, are_split, is_selection_of, are_oldest, is_selection}
 use Rattle.ccr_model.specs.Legal.{IsLegal}
 use Rattle.ccr_model.proofs.FirstNames.{names_of-append, length-names_of, same_names}
 use Rattle.ccr_model.proofs.TakenOnce.{FireFacts-allowed}
@@ -48,7 +48,7 @@ taken_slot past slot filled enough =
       oldest = ap (λ n. take n (filter fits ms)) (sym long);
     }
 
-fills_slot : (past : List Event) (slot : Slot) (xs : List Msg) → IsSlotFilled slot → choice slot (held past slot.port) ≡ Some xs → FillsSlot past slot xs
+fills_slot : (past : List Event) (slot : Slot) (xs : List Msg) → IsSlotFilled slot → selection slot (held past slot.port) ≡ Some xs → FillsSlot past slot xs
 fills_slot past slot xs filled is = of_test (is_choosable slot (held past slot.port)) refl is
   where
     of_test : (b : Bool) → is_choosable slot (held past slot.port) ≡ b → (if b then Some (take slot.most (fitting slot.pred (held past slot.port))) else None) ≡ Some xs → FillsSlot past slot xs
@@ -62,15 +62,15 @@ joined_parts (Some front) (Some back) xs is = (front, back, refl, refl, cc)
 joined_parts None b xs is = absurd (cc)
 joined_parts (Some front) None xs is = absurd (cc)
 
-fills_parts : (past : List Event) (slots : List Slot) (xs : List Msg) → ((index : ℕ) (slot : Slot) → slice_get slots index ≡ Some slot → IsSlotFilled slot) → choice_of_slots (held past) slots ≡ Some xs → (parts : List (List Msg)) × (AllZip (FillsSlot past) slots parts) × (names_of xs ≡ flat_map names_of parts)
+fills_parts : (past : List Event) (slots : List Slot) (xs : List Msg) → ((index : ℕ) (slot : Slot) → slice_get slots index ≡ Some slot → IsSlotFilled slot) → selection_of_slots (held past) slots ≡ Some xs → (parts : List (List Msg)) × (AllZip (FillsSlot past) slots parts) × (names_of xs ≡ flat_map names_of parts)
 fills_parts past [] xs filled is = let none : xs ≡ [] = cc in ([], tt, ap names_of none)
 fills_parts past (slot ∷ slots) xs filled is =
-    let split = joined_parts (choice slot (held past slot.port)) (choice_of_slots (held past) slots) xs is in
+    let split = joined_parts (selection slot (held past slot.port)) (selection_of_slots (held past) slots) xs is in
     let rest = fills_parts past slots split.1 (λ index other at. filled (suc index) other at) split.3 in
     let one = fills_slot past slot split.0 (filled 0 slot refl) split.2 in
     (split.0 ∷ rest.0, (one, rest.1), ap names_of split.4 ∙ names_of-append split.0 split.1 ∙ ap (λ names. names_of split.0 ++ names) rest.2)
 
-fills_slots : (past : List Event) (slots : List Slot) (names : List MsgId) → ((index : ℕ) (slot : Slot) → slice_get slots index ≡ Some slot → IsSlotFilled slot) → (o : Option (List Msg)) → choice_of_slots (held past) slots ≡ o → option_map_or (λ messages. same_lists same_message (names_of messages) names) o false ≡ true → FillsSlots past slots names
+fills_slots : (past : List Event) (slots : List Slot) (names : List MsgId) → ((index : ℕ) (slot : Slot) → slice_get slots index ≡ Some slot → IsSlotFilled slot) → (o : Option (List Msg)) → selection_of_slots (held past) slots ≡ o → option_map_or (λ messages. same_lists same_message (names_of messages) names) o false ≡ true → FillsSlots past slots names
 fills_slots past slots names filled None at is = absurd (cc)
 fills_slots past slots names filled (Some xs) at is =
     let found = fills_parts past slots xs filled at in
@@ -106,7 +106,7 @@ split_of (m ∷ a) b (n ∷ names) is = of_test (are_first b (n ∷ names)) refl
 held_front : (messages list : List Msg) → AreFirst messages list → All (Contains list) messages
 held_front messages list first = subst (All (Contains list)) (sym first) (All-take (Contains list) (length messages) list (All-contains_itself list))
 
-fills_gather : (past : List Event) (total first second : ℕ) (names : List MsgId) → is_choice_of (held past) (Gather total first second) names ≡ true → FillsGather past total first second names
+fills_gather : (past : List Event) (total first second : ℕ) (names : List MsgId) → is_selection_of (held past) (Gather total first second) names ≡ true → FillsGather past total first second names
 fills_gather past total first second names is =
     let parts = both (length names == total) (are_split (held past first) (held past second) names) is in
     let split = split_of (held past first) (held past second) names parts.1 in
@@ -124,8 +124,8 @@ fills_gather past total first second names is =
       second_oldest = split.4;
     }
 
-fills_pattern : (past : List Event) (p : Pattern) (names : List MsgId) → IsPatternFilled p → is_choice_of (held past) p names ≡ true → FillsPattern past p names
-fills_pattern past (Slots slots) names filled is = fills_slots past slots names filled.2 (choice_of_slots (held past) slots) refl is
+fills_pattern : (past : List Event) (p : Pattern) (names : List MsgId) → IsPatternFilled p → is_selection_of (held past) p names ≡ true → FillsPattern past p names
+fills_pattern past (Slots slots) names filled is = fills_slots past slots names filled.2 (selection_of_slots (held past) slots) refl is
 fills_pattern past (Gather total first second) names filled is = fills_gather past total first second names is
 
 one_oldest : (past : List Event) (port : ℕ) (names : List MsgId) (ms : List Msg) → held past port ≡ ms → are_oldest ms names ≡ true → IsOldest past port names
@@ -140,9 +140,9 @@ one_oldest past port (n ∷ k ∷ names) ms at is =
     let long : length (n ∷ k ∷ names) ≡ 1 = grind (arith, nat_tests, parts.0) in
     absurd (omega (arith, long))
 
-takes_whole : (w : Parts) → IsValid w → (past : List Event) (spot : Spot) (names : List MsgId) → is_choice w past spot names ≡ true → TakesWhole w past spot names
+takes_whole : (w : Parts) → IsValid w → (past : List Event) (spot : Spot) (names : List MsgId) → is_selection w past spot names ≡ true → TakesWhole w past spot names
 takes_whole w valid past (Branch b) names is =
-    let found = some_of (λ (s : Placement). is_choice_of (held past) s.branch.pattern names) (placement w b) is in
+    let found = some_of (λ (s : Placement). is_selection_of (held past) s.branch.pattern names) (placement w b) is in
     record { its = found.0; known = found.1; filled = fills_pattern past found.0.branch.pattern names ((sound w valid).patterns b found.0 found.1) found.2 }
 takes_whole w valid past (Site b k) names is =
     let found = some_of (λ port. are_oldest (held past port) names) (site_port w b k) is in
@@ -152,4 +152,4 @@ takes_whole w valid past (Site b k) names is =
 pub whole_pattern : (w : Parts) → IsValid w → (h : List Event) → IsLegal w h → (past : List Event) (t : TaskId) (s : Spot) (ms : List MsgId) (cs : List TaskId) → Occurs h past (Fire t s ms cs) → TakesWhole w past s ms
 whole_pattern w valid h legal past t s ms cs stands =
     let allowed = allowed_at w h past (Fire t s ms cs) legal stands in
-    takes_whole w valid past s ms (FireFacts-allowed w past t s ms cs allowed).choice_made
+    takes_whole w valid past s ms (FireFacts-allowed w past t s ms cs allowed).selection_made

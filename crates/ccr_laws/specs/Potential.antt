@@ -9,7 +9,7 @@ use Rattle.ccr_wiring.specs.Wirings.{Placement, placement}
 use Rattle.ccr_wiring.specs.Limits.{posts_in_all}
 use Rattle.ccr_model.specs.declared.history.Event.{Event}
 
--- whether a choice by the pattern has at least one message
+-- whether a selection by the pattern has at least one message
 abbrev pub takes_some : Pattern → Bool
 takes_some (Slots slots) = list_any (λ (slot : Slot). nat_le 1 slot.least && nat_le 1 slot.most) slots
 takes_some (Gather total first second) = nat_le 1 total

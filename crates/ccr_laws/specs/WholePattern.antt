@@ -10,10 +10,10 @@ use Rattle.ccr_base.specs.declared.patterns.Pattern.{Pattern}
 use Rattle.ccr_base.specs.declared.patterns.Pattern.TheVariants.{Slots, Gather}
 use Rattle.ccr_wiring.specs.declared.parts.Parts.{Parts}
 use Rattle.ccr_model.specs.declared.history.Event.{Event}
-use Rattle.ccr_base.specs.Choice.{holds, fitting}
+use Rattle.ccr_base.specs.Selection.{holds, fitting}
 use Rattle.ccr_wiring.specs.Wirings.{Placement, placement, site_port}
 use Rattle.ccr_model.specs.Posts.{held}
-use Rattle.ccr_model.specs.Choice.{names_of}
+use Rattle.ccr_model.specs.Selection.{names_of}
 
 -- the messages are the first of the list
 abbrev pub AreFirst : List Msg → List Msg → Type 0

@@ -34,7 +34,7 @@ use Rattle.ccr_model.proofs.Roots.{root_own, IsOneEach-legal}
 use Rattle.ccr_model.proofs.SameNames.{same_task-is, same_task-self, same_task-sym}
 use Rattle.ccr_model.proofs.Suspending.{is_gone_on}
 use Rattle.ccr_model.proofs.TaskLists.{any_named, not_within}
-use Rattle.ccr_model.proofs.TaskPlaces.{ArePlaced-legal}
+use Rattle.ccr_model.proofs.WhoWasPut.{ArePlaced-legal}
 use Rattle.ccr_model.proofs.TasksLeft.{has_task-append, out_left}
 use Rattle.ccr_ledger.specs.Kept.{is_admitted}
 use Rattle.ccr_ledger.proofs.ScriptPosts.{counted-post}
@@ -88,8 +88,8 @@ module _ (w : Parts) (h : List Event) (legal : IsLegal w h) where
       over : is_over h t ≡ true → ⊥
       over is =
           let facts = AdmitFacts-allowed w h t allowed in
-          let waits = WaitingFacts-waiting w h facts.place.domain t (OneName-legal w h legal) facts.waits in
-          let no_put = waits_unput w h facts.place.domain t (CutFacts-legal w h legal) waits in
+          let waits = WaitingFacts-waiting w h facts.placement.domain t (OneName-legal w h legal) facts.waits in
+          let no_put = waits_unput w h facts.placement.domain t (CutFacts-legal w h legal) waits in
           let placed = ArePlaced-legal w h legal in
           let ended_so = AreEnded-legal w h legal in
           let no_start = not_within (started h) (put h) t (placed.lists.put_started t) no_put in

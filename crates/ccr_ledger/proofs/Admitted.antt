@@ -24,7 +24,7 @@ use Rattle.ccr_model.proofs.SameNames.{same_task-self, same_task-sym}
 use Rattle.ccr_base.proofs.Booleans.{or_left}
 use Rattle.ccr_model.proofs.TasksLeft.{filter_on}
 use Rattle.ccr_model.proofs.FiredTasks.{IsFired, placement_stays}
-use Rattle.ccr_model.proofs.TaskPlaces.{ArePlaced-legal, PutFacts-allowed, new_drop}
+use Rattle.ccr_model.proofs.WhoWasPut.{ArePlaced-legal, PutFacts-allowed, new_drop}
 use Rattle.ccr_model.proofs.Ending.{RunningFacts-allowed}
 use Rattle.ccr_model.proofs.ExclusiveRootsAreAlone.{ever_admitted_fired}
 use Rattle.ccr_model.proofs.Roots.{AreRooted-legal}

@@ -25,7 +25,7 @@ use Rattle.ccr_model.proofs.FiredTasks.{IsFired, root_stays, placement_fired}
 use Rattle.ccr_model.proofs.AllowedFirings.{firings-other}
 use Rattle.ccr_model.proofs.SameNames.{same_task-sym, same_task-self}
 use Rattle.ccr_model.proofs.Stable.{firing_named-append, before-append, load_at-append, play_of-append}
-use Rattle.ccr_model.proofs.TaskPlaces.{ArePlaced-legal, PutFacts-allowed, StartFacts-allowed, new_drop}
+use Rattle.ccr_model.proofs.WhoWasPut.{ArePlaced-legal, PutFacts-allowed, StartFacts-allowed, new_drop}
 use Rattle.ccr_ledger.specs.declared.cards.Card.{Card}
 use Rattle.ccr_ledger.specs.declared.cards.TaskStage.{TaskStage}
 use Rattle.ccr_ledger.specs.declared.cards.TaskStage.TheVariants as stages
@@ -111,7 +111,7 @@ tasks-post w h m (Task t index) b is legal keeps =
 pub tasks-admit : (w : Parts) (h : List Event) (t : TaskId) (b : Books) → IsLegal w h → IsAllowed w h (Admit t) → KeepsTasks w h b → KeepsTasks w (h ++ Admit t ∷ []) (after_event w (Admit t) b)
 tasks-admit w h t b legal allowed keeps =
     let facts = AdmitFacts-allowed w h t allowed in
-    let its = placement_fired w h t facts.place facts.is_place in
+    let its = placement_fired w h t facts.placement facts.is_placement in
     rw (card_told w h t its.0 b keeps its.1) (keeps-one w h (Admit t) b (record b { tasks = _; waiting = _; admitted = _; alone = _ }) admit_root t refl keeps refl
     (λ u f named. (
     card-stays w h (Admit t) u f _ _ _ named (stage-admit w h t u f.spot legal allowed) (admitted-admit w h legal t u allowed) (made-other h (Admit t) u refl)
@@ -126,7 +126,7 @@ tasks-admit w h t b legal allowed keeps =
 pub tasks-start : (w : Parts) (h : List Event) (t : TaskId) (a : ℕ) (b : Books) → IsLegal w h → IsAllowed w h (Start t a) → KeepsTasks w h b → KeepsTasks w (h ++ Start t a ∷ []) (after_event w (Start t a) b)
 tasks-start w h t a b legal allowed keeps =
     let facts = StartFacts-allowed w h t a allowed in
-    let its = placement_fired w h t facts.place facts.is_place in
+    let its = placement_fired w h t facts.placement facts.is_placement in
     rw (card_told w h t its.0 b keeps its.1) (keeps-one w h (Start t a) b (record b { tasks = _; queued = _; running = _; coming = _ }) (in_stage stages.Running) t refl keeps refl
     (λ u f named. (
     card-stays w h (Start t a) u f _ _ _ named (stage-start w h t a u f.spot legal allowed) (admitted-other w h legal (Start t a) u refl refl) (made-other h (Start t a) u refl)

@@ -8,7 +8,7 @@ use Rattle.ccr_wiring.specs.Valid.{IsValid}
 use Rattle.ccr_wiring.specs.Wirings.{Placement, placement, site_port}
 use Rattle.ccr_model.specs.declared.history.Event.{Event}
 use Rattle.ccr_model.specs.declared.history.Event.TheVariants.{Post, Fire, Admit, Put, Start, End}
-use Rattle.ccr_model.specs.Choice.{is_choice_of}
+use Rattle.ccr_model.specs.Selection.{is_selection_of}
 use Rattle.ccr_model.specs.Posts.{held}
 use Rattle.ccr_model.specs.Legal.{IsAllowed, IsLegal}
 use Rattle.ccr_base.proofs.Options.{some_of}
@@ -31,11 +31,11 @@ tasks-event w valid h (Put t d) b legal allowed keeps = tasks-put w h t d b lega
 tasks-event w valid h (Start t a) b legal allowed keeps = tasks-start w h t a b legal allowed keeps.tasks
 tasks-event w valid h (End t how) b legal allowed keeps = tasks-end w h t how b legal allowed keeps.tasks
 tasks-event w valid h (Fire t (Branch n) ms cs) b legal allowed keeps =
-    let made = (FireFacts-allowed w h t (Branch n) ms cs allowed).choice_made in
-    let found = some_of (λ (s : Placement). is_choice_of (held h) s.branch.pattern ms) (placement w n) made in
+    let made = (FireFacts-allowed w h t (Branch n) ms cs allowed).selection_made in
+    let found = some_of (λ (s : Placement). is_selection_of (held h) s.branch.pattern ms) (placement w n) made in
     rw found.1 (tasks-branch w h t n ms cs legal allowed found.0 b found.1 (branch-takes w valid h legal b keeps.sizes keeps.ports n found.0 ms found.1 made) keeps.tasks)
 tasks-event w valid h (Fire t (Site n k) ms cs) b legal allowed keeps =
-    let made = (FireFacts-allowed w h t (Site n k) ms cs allowed).choice_made in
+    let made = (FireFacts-allowed w h t (Site n k) ms cs allowed).selection_made in
     let facts = ResumeFacts-allowed w h t n k ms cs allowed in
     let first : slice_get (suspended_at b.suspended n k) 0 ≡ Some facts.resumes = rw (keeps.rows.suspended n k, facts.is_first) refl in
     let card : resumed_card b n k ≡ Some (card_of w h facts.resumes facts.firing) = ap (option_and_then (card_at b.tasks)) first ∙ card_told w h facts.resumes facts.firing b keeps.tasks facts.is_firing in

@@ -26,7 +26,7 @@ use Rattle.ccr_base.proofs.Booleans.{not_true, both, or_left, or_right, refuted,
 use Rattle.ccr_model.proofs.TasksLeft.{filter_on, distinct-filter}
 use Rattle.ccr_model.proofs.TaskLists.{of_more, not_more}
 use Rattle.ccr_model.proofs.FiredTasks.{IsFired, fired_has}
-use Rattle.ccr_model.proofs.TaskPlaces.{ArePlaced-legal, StartFacts-allowed, StartFacts-queued, PutFacts-allowed, new_drop}
+use Rattle.ccr_model.proofs.WhoWasPut.{ArePlaced-legal, StartFacts-allowed, StartFacts-queued, PutFacts-allowed, new_drop}
 use Rattle.ccr_model.proofs.AllowedFirings.{FiresSo-allowed, WaitingFacts, firings-other}
 use Rattle.ccr_model.proofs.Cutting.{CutFacts-legal, cut_by, waits_unput}
 use Rattle.ccr_ledger.specs.declared.cards.Card.{Card}
@@ -76,7 +76,7 @@ counted-less w h out ns t b legal size facts there counts q low =
     ∙ sym (left-less (fired_by w (λ s. s.branch.queue == q) h) out t (fired_once w (λ (f : Firing). is_branch_where w (λ s. s.branch.queue == q) f.spot) h legal) there)))
   where
     same : is_branch facts.card.spot && (facts.card.queue == q) ≡ has_task (fired_by w (λ s. s.branch.queue == q) h) t
-    same = rw (facts.spot, facts.queue) (sym (fired_by-is w (λ s. s.branch.queue == q) h t facts.firing legal facts.is_firing ∙ branch-is w (λ s. s.branch.queue == q) facts.firing.spot facts.place facts.is_place))
+    same = rw (facts.spot, facts.queue) (sym (fired_by-is w (λ s. s.branch.queue == q) h t facts.firing legal facts.is_firing ∙ branch-is w (λ s. s.branch.queue == q) facts.firing.spot facts.placement facts.sits))
 
 -- one more fired
 counted-more : (w : Parts) (h : List Event) (out : List TaskId) (ns : List ℕ) (t : TaskId) (n : ℕ) (z : Placement) (ms : List MsgId) (cs : List TaskId) → placement w n ≡ Some z → length ns ≡ length w.queues → has_task out t ≡ false → AreCounted w h out ns → AreCounted w (h ++ Fire t (Branch n) ms cs ∷ []) out (more z.branch.queue ns)
@@ -213,7 +213,7 @@ counted-start w h t a b legal allowed sizes tasks counts =
     by_numbers w (h ++ e ∷ []) (gone (h ++ e ∷ [])) ns (after_event w e b).coming (ap (λ o. (option_map_or (λ c. after_start t a c b) o b).coming) card.is_card)
     (by_gone w (h ++ e ∷ []) (gone h ++ t ∷ []) (gone (h ++ e ∷ [])) ns (gone-start h t a)
     (by_event w h e (gone h ++ t ∷ []) ns refl
-    (counted-less w h (gone h) b.coming t b legal sizes.coming card (queued_here w h facts.place.branch.queue t legal queued_so) counts)))
+    (counted-less w h (gone h) b.coming t b legal sizes.coming card (queued_here w h facts.placement.branch.queue t legal queued_so) counts)))
 
 -- a put, of a task that has a card
 put-card : (w : Parts) (h : List Event) (t : TaskId) (d : Option TaskId) (b : Books) → IsLegal w h → IsAllowed w h (Put t d) → KeepsTasks w h b → (after_event w (Put t d) b).coming ≡ (after_dropped d b).coming

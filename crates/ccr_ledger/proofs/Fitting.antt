@@ -6,24 +6,20 @@ use Rattle.ccr_base.specs.declared.names.MsgId.{MsgId}
 use Rattle.ccr_base.specs.declared.messages.Msg.{Msg}
 use Rattle.ccr_base.specs.declared.patterns.Pred.{Pred}
 use Rattle.ccr_base.specs.declared.patterns.Pred.TheVariants.{Any}
-use Rattle.ccr_base.specs.Choice.{holds, fitting}
+use Rattle.ccr_base.specs.Selection.{holds, fitting}
 use Rattle.ccr_base.specs.Names.{same_message, has_message}
 use Rattle.ccr_ledger.specs.Taken.{without_first, without_some, shared}
 use Rattle.ccr_ledger.proofs.Taking.{without-any}
-use Rattle.ccr_model.specs.Choice.{names_of, are_first, are_split}
+use Rattle.ccr_model.specs.Selection.{names_of, are_first, are_split}
 use Rattle.ccr_model.proofs.PostNames.{times}
 use Rattle.ccr_model.proofs.TakenOnce.{times-filter}
 use Rattle.ccr_model.proofs.SameNames.{same_message-self, same_message-sym, same_message-is}
 use Rattle.ccr_base.proofs.Booleans.{both, or_none}
-use Rattle.ccr_model.proofs.MessageNames.{any_fits}
+use Rattle.ccr_model.proofs.MessageNames.{any_fits, left_by}
 
 -- no name stands twice
 abbrev pub AreApart : List Msg → Type 0
 AreApart ms = (name : MsgId) → times name ms ≤ 1
-
--- the messages without those of these names
-abbrev pub left_by : List MsgId → List Msg → List Msg
-left_by names ms = filter (λ (m : Msg). not (has_message names m.id)) ms
 
 tail_apart : (m : Msg) (ms : List Msg) → AreApart (m ∷ ms) → AreApart ms
 tail_apart m ms apart name = grind (arith, apart name)

@@ -3,7 +3,7 @@ use Rattle.std.proofs.Common.{inl, inr, Bool, true, false, List, [], ◌∷◌, 
 use Rattle.std.specs.Prelude.{if◌then◌else◌}
 use Rattle.ccr_base.specs.declared.messages.Msg.{Msg}
 use Rattle.ccr_base.specs.declared.patterns.Pred.{Pred}
-use Rattle.ccr_base.specs.Choice.{holds}
+use Rattle.ccr_base.specs.Selection.{holds}
 use Rattle.ccr_ledger.specs.Taken.{IsLeftOf, without_first}
 
 pub left_same : (ms : List Msg) → IsLeftOf ms ms

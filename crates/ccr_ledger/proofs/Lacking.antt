@@ -1,4 +1,4 @@
--- Where one port holds too little for its slot, the slots have no choice; else each takes its own.
+-- Where one port holds too little for its slot, the slots have no selection; else each takes its own.
 use Rattle.std.proofs.Common.{◌≡◌, ◌∙◌, ap, ℕ, zero, suc, take, Bool, true, false, List, [], ◌∷◌, ◌++◌, flat_map, Option, Some, None, refl, length, ◌≤◌, arith}
 use Rattle.std.specs.Prelude.{option_map}
 use Rattle.std.specs.List.{list_all}
@@ -7,22 +7,22 @@ use Rattle.ccr_ledger.specs.Rows.{row}
 use Rattle.ccr_base.specs.declared.names.MsgId.{MsgId}
 use Rattle.ccr_base.specs.declared.messages.Msg.{Msg}
 use Rattle.ccr_base.specs.declared.patterns.Slot.{Slot}
-use Rattle.ccr_base.specs.Choice.{choice, is_choosable}
-use Rattle.ccr_model.specs.Choice.{choice_of_slots, joined, names_of}
+use Rattle.ccr_base.specs.Selection.{selection, is_choosable}
+use Rattle.ccr_model.specs.Selection.{selection_of_slots, joined, names_of}
 use Rattle.ccr_ledger.specs.Taking.{slot_takes}
 
 none-behind : (o : Option (List Msg)) → joined o None ≡ None
 none-behind None = refl
 none-behind (Some ms) = refl
 
-pub no_choice_of_slots : (held_at : ℕ → List Msg) (slots : List Slot) → list_all (λ slot. is_choosable slot (held_at slot.port)) slots ≡ false → choice_of_slots held_at slots ≡ None
-no_choice_of_slots held_at [] lacking = absurd (cc)
-no_choice_of_slots held_at (slot ∷ slots) lacking = of_test (is_choosable slot (held_at slot.port)) refl (λ rest. no_choice_of_slots held_at slots rest)
+pub no_selection_of_slots : (held_at : ℕ → List Msg) (slots : List Slot) → list_all (λ slot. is_choosable slot (held_at slot.port)) slots ≡ false → selection_of_slots held_at slots ≡ None
+no_selection_of_slots held_at [] lacking = absurd (cc)
+no_selection_of_slots held_at (slot ∷ slots) lacking = of_test (is_choosable slot (held_at slot.port)) refl (λ rest. no_selection_of_slots held_at slots rest)
   where
     of_test : (b : Bool) → is_choosable slot (held_at slot.port) ≡ b
-        → (list_all (λ slot. is_choosable slot (held_at slot.port)) slots ≡ false → choice_of_slots held_at slots ≡ None)
-        → choice_of_slots held_at (slot ∷ slots) ≡ None
-    of_test true enough rest = rw (rest (rw enough at lacking)) (none-behind (choice slot (held_at slot.port)))
+        → (list_all (λ slot. is_choosable slot (held_at slot.port)) slots ≡ false → selection_of_slots held_at slots ≡ None)
+        → selection_of_slots held_at (slot ∷ slots) ≡ None
+    of_test true enough rest = rw (rest (rw enough at lacking)) (none-behind (selection slot (held_at slot.port)))
     of_test false enough rest = rw enough refl
 
 -- an empty port gives nothing
@@ -39,14 +39,14 @@ none_past [] n past = refl
 none_past (r ∷ rows) zero past = absurd (omega arith)
 none_past (r ∷ rows) (suc n) past = none_past rows n (omega arith)
 
-pub names_of_whole_choice : (held_at : ℕ → List Msg) (slots : List Slot) → list_all (λ slot. is_choosable slot (held_at slot.port)) slots ≡ true
-    → option_map names_of (choice_of_slots held_at slots) ≡ Some (flat_map (λ slot. names_of (slot_takes held_at slot)) slots)
-names_of_whole_choice held_at [] whole = refl
-names_of_whole_choice held_at (slot ∷ slots) whole = of_test (is_choosable slot (held_at slot.port)) refl (choice_of_slots held_at slots) refl (λ others. names_of_whole_choice held_at slots others)
+pub names_of_whole_selection : (held_at : ℕ → List Msg) (slots : List Slot) → list_all (λ slot. is_choosable slot (held_at slot.port)) slots ≡ true
+    → option_map names_of (selection_of_slots held_at slots) ≡ Some (flat_map (λ slot. names_of (slot_takes held_at slot)) slots)
+names_of_whole_selection held_at [] whole = refl
+names_of_whole_selection held_at (slot ∷ slots) whole = of_test (is_choosable slot (held_at slot.port)) refl (selection_of_slots held_at slots) refl (λ others. names_of_whole_selection held_at slots others)
   where
-    of_test : (b : Bool) → is_choosable slot (held_at slot.port) ≡ b → (o : Option (List Msg)) → choice_of_slots held_at slots ≡ o
-        → (list_all (λ other. is_choosable other (held_at other.port)) slots ≡ true → option_map names_of (choice_of_slots held_at slots) ≡ Some (flat_map (λ other. names_of (slot_takes held_at other)) slots))
-        → option_map names_of (choice_of_slots held_at (slot ∷ slots)) ≡ Some (flat_map (λ other. names_of (slot_takes held_at other)) (slot ∷ slots))
+    of_test : (b : Bool) → is_choosable slot (held_at slot.port) ≡ b → (o : Option (List Msg)) → selection_of_slots held_at slots ≡ o
+        → (list_all (λ other. is_choosable other (held_at other.port)) slots ≡ true → option_map names_of (selection_of_slots held_at slots) ≡ Some (flat_map (λ other. names_of (slot_takes held_at other)) slots))
+        → option_map names_of (selection_of_slots held_at (slot ∷ slots)) ≡ Some (flat_map (λ other. names_of (slot_takes held_at other)) (slot ∷ slots))
     of_test false lacking o is rest = let none = rw lacking at whole in absurd (cc)
     of_test true enough None is rest = let others = rw is at (rest (rw enough at whole)) in absurd (cc)
     of_test true enough (Some back) is rest =

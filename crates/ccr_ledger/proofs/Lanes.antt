@@ -1,5 +1,5 @@
 -- How lanes stay lanes while messages come and go.
-use Rattle.std.proofs.Common.{◌≡◌, ℕ, zero, suc, ◌+◌, ◌-◌, ◌<◌, ◌≤◌, Bool, true, false, not, ◌&&◌, List, [], ◌∷◌, ◌++◌, length, filter, map, take, drop, Option, Some, None, refl, sym, ap, ◌∙◌, arith, length-append, append-nil, append_assoc, add-one}
+use Rattle.std.proofs.Common.{◌≡◌, ℕ, zero, suc, ◌+◌, ◌-◌, ◌<◌, ◌≤◌, Bool, true, false, not, ◌&&◌, List, [], ◌∷◌, ◌++◌, length, filter, map, take, drop, Option, Some, None, refl, sym, ap, ◌∙◌, arith, length-append, append-nil, append_assoc}
 use Rattle.std.specs.Bool.{Decides}
 use Rattle.std.specs.Prelude.{◌==◌, nat_lt, is_some, option_map, option_to_list, if◌then◌else◌}
 use Rattle.std.specs.List.{slice_get, list_all, remove}
@@ -13,12 +13,13 @@ use Rattle.std.proofs.lemmas.Option.{get_or_from_slice_get, slice_get_within, sa
 use Rattle.ccr_base.specs.declared.names.MsgId.{MsgId}
 use Rattle.ccr_base.specs.declared.messages.Msg.{Msg}
 use Rattle.ccr_base.specs.declared.patterns.Pred.{Pred}
-use Rattle.ccr_base.specs.Choice.{holds, fitting}
-use Rattle.ccr_ledger.specs.Lanes.{Indices, present, is_here, fits, fitting_indices, name_at, names_at, entered, entered_item, lost, IsLane, AreLanes, HasLane, HasPrefix}
+use Rattle.ccr_base.specs.Selection.{holds, fitting}
+use Rattle.ccr_ledger.specs.Lanes.{IndexLaneState, present, is_here, fits, fitting_indices, name_at, names_at, entered, entered_item, lost, IsLane, AreLanes, HasLane, HasPrefix}
 use Rattle.ccr_ledger.specs.Taken.{without_first}
 use Rattle.std.proofs.lemmas.Bool.{and_parts as both, ltb-true}
 use Rattle.ccr_base.proofs.Booleans.{and_false}
 use Rattle.ccr_base.proofs.Options.{none-above}
+use Rattle.ccr_base.proofs.Lists.{take_more}
 
 -- ---- one index more
 
@@ -49,7 +50,7 @@ low-append n [] js one other = other
 low-append n (k ∷ ks) js one other = let parts = both (nat_lt k n) (list_all (λ k. nat_lt k n) ks) one in rw (parts.0) (low-append n ks js parts.1 other)
 
 -- a lane that the last index was put behind, where it fits
-lane-more : (items : List (Option Msg)) (item : Option Msg) (lane : Indices) (more : List ℕ) (count : ℕ) → IsLane items lane
+lane-more : (items : List (Option Msg)) (item : Option Msg) (lane : IndexLaneState) (more : List ℕ) (count : ℕ) → IsLane items lane
     → list_all (λ k. nat_lt k (length items + 1)) more ≡ true
     → filter (is_here (items ++ item ∷ [])) more ≡ (if fits lane.pred item then length items ∷ [] else [])
     → count ≡ lane.count + length (if fits lane.pred item then length items ∷ [] else [])
@@ -66,21 +67,21 @@ lane-more items item lane more count is low fit counted =
 last_low : (n : ℕ) → list_all (λ k. nat_lt k (n + 1)) (n ∷ []) ≡ true
 last_low n = grind (arith, nat_tests)
 
-lane-posted : (items : List (Option Msg)) (m : Msg) (lane : Indices) → IsLane items lane → IsLane (items ++ Some m ∷ []) (entered (length items) m.value lane)
+lane-posted : (items : List (Option Msg)) (m : Msg) (lane : IndexLaneState) → IsLane items lane → IsLane (items ++ Some m ∷ []) (entered (length items) m.value lane)
 lane-posted items m lane is = of_test (holds lane.pred m.value) refl
   where
     of_test : (b : Bool) → holds lane.pred m.value ≡ b → IsLane (items ++ Some m ∷ []) (if b then record { pred = lane.pred; indices = lane.indices ++ length items ∷ []; count = lane.count + 1 } else lane)
     of_test true holding = lane-more items (Some m) lane (length items ∷ []) (lane.count + 1) is (last_low (length items)) (rw (holding, is_here-last items (Some m)) refl) (rw holding refl)
     of_test false holding = rw (← append-nil lane.indices) (lane-more items (Some m) lane [] lane.count is refl (rw holding refl) (rw holding (omega arith)))
 
-lane-gone : (items : List (Option Msg)) (lane : Indices) → IsLane items lane → IsLane (items ++ None ∷ []) lane
+lane-gone : (items : List (Option Msg)) (lane : IndexLaneState) → IsLane items lane → IsLane (items ++ None ∷ []) lane
 lane-gone items lane is = rw (← append-nil lane.indices) (lane-more items None lane [] lane.count is refl refl (omega arith))
 
-pub lane-item : (items : List (Option Msg)) (n : ℕ) (item : Option Msg) (lane : Indices) → n ≡ length items → IsLane items lane → IsLane (items ++ item ∷ []) (entered_item n item lane)
+pub lane-item : (items : List (Option Msg)) (n : ℕ) (item : Option Msg) (lane : IndexLaneState) → n ≡ length items → IsLane items lane → IsLane (items ++ item ∷ []) (entered_item n item lane)
 lane-item items n None lane last is = lane-gone items lane is
 lane-item items n (Some m) lane last is = rw last (lane-posted items m lane is)
 
-pub pred-item : (n : ℕ) (item : Option Msg) (lane : Indices) → (entered_item n item lane).pred ≡ lane.pred
+pub pred-item : (n : ℕ) (item : Option Msg) (lane : IndexLaneState) → (entered_item n item lane).pred ≡ lane.pred
 pred-item n None lane = refl
 pred-item n (Some m) lane = of_test (holds lane.pred m.value)
   where
@@ -88,16 +89,11 @@ pred-item n (Some m) lane = of_test (holds lane.pred m.value)
     of_test true = refl
     of_test false = refl
 
-pub posted : (items : List (Option Msg)) (m : Msg) (lanes : List Indices) → AreLanes items lanes → AreLanes (items ++ Some m ∷ []) (map (entered (length items) m.value) lanes)
+pub posted : (items : List (Option Msg)) (m : Msg) (lanes : List IndexLaneState) → AreLanes items lanes → AreLanes (items ++ Some m ∷ []) (map (entered (length items) m.value) lanes)
 posted items m [] are = tt
 posted items m (lane ∷ lanes) are = (lane-posted items m lane are.0, posted items m lanes are.1)
 
 -- ---- a lane that is tidy up to an index
-
-pub take-one : (ks : List ℕ) (n k : ℕ) → slice_get ks n ≡ Some k → take (n + 1) ks ≡ take n ks ++ k ∷ []
-take-one [] n k at = absurd (cc)
-take-one (j ∷ ks) zero k at = let same : j ≡ k = cc in rw same refl
-take-one (j ∷ ks) (suc n) k at = rw add-one (ap (λ (js : List ℕ). j ∷ js) (rw add-one at (take-one ks n k at)))
 
 -- those that are here among the first stand first
 here-parts : (items : List (Option Msg)) (ks : List ℕ) (n : ℕ) → filter (is_here items) ks ≡ filter (is_here items) (take n ks) ++ filter (is_here items) (drop n ks)
@@ -113,11 +109,11 @@ take-of (suc most) (suc n) [] rest less within = absurd (omega arith)
 take-of (suc most) (suc n) (k ∷ ks) rest less within = ap (λ (js : List ℕ). k ∷ js) (take-of most n ks rest (omega arith) (omega arith))
 
 -- the first indices of a lane, up to one, are of messages that are here
-pub record IsTidy (items : List (Option Msg)) (lane : Indices) (n : ℕ) : Type 0 where
+pub record IsTidy (items : List (Option Msg)) (lane : IndexLaneState) (n : ℕ) : Type 0 where
   pub here : filter (is_here items) (take n lane.indices) ≡ take n lane.indices
   pub within : n ≤ length lane.indices
 
-module _ (items : List (Option Msg)) (lane : Indices) (n : ℕ) (is : IsLane items lane) (tidy : IsTidy items lane n) where
+module _ (items : List (Option Msg)) (lane : IndexLaneState) (n : ℕ) (is : IsLane items lane) (tidy : IsTidy items lane n) where
   pub tidy-front : (most : ℕ) → most ≤ n → take most lane.indices ≡ take most (fitting_indices 0 lane.pred items)
   tidy-front most less =
       let parts = here-parts items lane.indices n in
@@ -131,7 +127,7 @@ module _ (items : List (Option Msg)) (lane : Indices) (n : ℕ) (is : IsLane ite
 
   pub tidy-more : (k : ℕ) → slice_get lane.indices n ≡ Some k → is_here items k ≡ true → IsTidy items lane (n + 1)
   tidy-more k at here =
-      let one = take-one lane.indices n k at in
+      let one = take_more lane.indices n k at in
       let low = slice_get_within lane.indices n k at in
       record {
         here = rw (one, filter-append (is_here items) (take n lane.indices) (k ∷ []), tidy.here, here) refl;
@@ -174,7 +170,7 @@ fewer-left ks n k at = let low = slice_get_within ks n k at in omega (arith, len
 
 -- ---- a post, whole
 
-module _ (items now : List (Option Msg)) (lanes then' : List Indices) (n : ℕ) (last : n ≡ length items) (grown : now ≡ items ++ None ∷ []) (are : AreLanes items lanes) where
+module _ (items now : List (Option Msg)) (lanes then' : List IndexLaneState) (n : ℕ) (last : n ≡ length items) (grown : now ≡ items ++ None ∷ []) (are : AreLanes items lanes) where
   pub after_post : (m : Msg) → then' ≡ map (entered n m.value) lanes → AreLanes (set now n (Some m)) then'
   after_post m is = rw (grown, is, last, set_at items None [] (Some m) (length items) refl) (posted items m lanes are)
 
@@ -183,16 +179,16 @@ present-post items now n m last grown = rw (grown, last, set_at items None [] (S
 
 -- ---- a lane more, a lane changed, a lane looked up
 
-pub are-one_more : (items : List (Option Msg)) (lanes : List Indices) (lane : Indices) → AreLanes items lanes → IsLane items lane → AreLanes items (lanes ++ lane ∷ [])
+pub are-one_more : (items : List (Option Msg)) (lanes : List IndexLaneState) (lane : IndexLaneState) → AreLanes items lanes → IsLane items lane → AreLanes items (lanes ++ lane ∷ [])
 are-one_more items [] lane are is = (is, tt)
 are-one_more items (l ∷ lanes) lane are is = (are.0, are-one_more items lanes lane are.1 is)
 
-pub are-set : (items : List (Option Msg)) (lanes : List Indices) (n : ℕ) (lane : Indices) → AreLanes items lanes → IsLane items lane → AreLanes items (set lanes n lane)
+pub are-set : (items : List (Option Msg)) (lanes : List IndexLaneState) (n : ℕ) (lane : IndexLaneState) → AreLanes items lanes → IsLane items lane → AreLanes items (set lanes n lane)
 are-set items [] n lane are is = tt
 are-set items (l ∷ lanes) zero lane are is = (is, are.1)
 are-set items (l ∷ lanes) (suc n) lane are is = (are.0, are-set items lanes n lane are.1 is)
 
-pub is-at : (items : List (Option Msg)) (lanes : List Indices) (n : ℕ) (lane : Indices) → AreLanes items lanes → slice_get lanes n ≡ Some lane → IsLane items lane
+pub is-at : (items : List (Option Msg)) (lanes : List IndexLaneState) (n : ℕ) (lane : IndexLaneState) → AreLanes items lanes → slice_get lanes n ≡ Some lane → IsLane items lane
 is-at items [] n lane are at = absurd (cc)
 is-at items (l ∷ lanes) zero lane are at = let same : l ≡ lane = cc in rw (← same) are.0
 is-at items (l ∷ lanes) (suc n) lane are at = is-at items lanes n lane are.1 at
@@ -237,7 +233,7 @@ count-set n (suc i) pred m (x ∷ items) at = of_test (fits pred x) (count-set (
     of_test true rest = omega (arith, rest)
     of_test false rest = rest
 
-lane-taken : (items : List (Option Msg)) (j : ℕ) (m : Msg) (lane : Indices) → slice_get items j ≡ Some (Some m) → IsLane items lane → IsLane (set items j None) (lost m.value lane)
+lane-taken : (items : List (Option Msg)) (j : ℕ) (m : Msg) (lane : IndexLaneState) → slice_get items j ≡ Some (Some m) → IsLane items lane → IsLane (set items j None) (lost m.value lane)
 lane-taken items j m lane at is = of_test (holds lane.pred m.value) (count-set 0 j lane.pred m items at)
   where
     low : j < length items
@@ -255,7 +251,7 @@ lane-taken items j m lane at is = of_test (holds lane.pred m.value) (count-set 0
     of_test true fewer = of_count (lane.count - 1) (omega (arith, fewer, is.counted))
     of_test false fewer = of_count lane.count (omega (arith, fewer, is.counted))
 
-pub taken : (items : List (Option Msg)) (j : ℕ) (m : Msg) (lanes : List Indices) → slice_get items j ≡ Some (Some m) → AreLanes items lanes → AreLanes (set items j None) (map (lost m.value) lanes)
+pub taken : (items : List (Option Msg)) (j : ℕ) (m : Msg) (lanes : List IndexLaneState) → slice_get items j ≡ Some (Some m) → AreLanes items lanes → AreLanes (set items j None) (map (lost m.value) lanes)
 taken items j m [] at are = tt
 taken items j m (lane ∷ lanes) at are = (lane-taken items j m lane at are.0, taken items j m lanes at are.1)
 
@@ -312,7 +308,7 @@ pub found_in : (pred : Pred) (now items : List (Option Msg)) (found o : Option �
 found_in pred now items found o same index is = rw (← same, ← index) is
 
 -- the lane that was looked at isn't of the predicate, so one that is stands behind it
-pub passed_over : (lanes : List Indices) (n k : ℕ) (here : Indices) (pred : Pred) (b : Bool) → here ≡ get_or lanes n here → Decides b (here.pred ≡ pred) → b ≡ false → n ≤ k → HasLane lanes k pred → n + 1 ≤ k
+pub passed_over : (lanes : List IndexLaneState) (n k : ℕ) (here : IndexLaneState) (pred : Pred) (b : Bool) → here ≡ get_or lanes n here → Decides b (here.pred ≡ pred) → b ≡ false → n ≤ k → HasLane lanes k pred → n + 1 ≤ k
 passed_over lanes n k here pred b read decides other low has = of_test (n == k) refl
   where
     of_test : (same : Bool) → (n == k) ≡ same → n + 1 ≤ k
@@ -323,14 +319,14 @@ passed_over lanes n k here pred b read decides other low has = of_test (n == k) 
         absurd (cc)
     of_test false is = grind (arith, nat_tests, is, low)
 
-pub set_found : (lanes : List Indices) (n : ℕ) (lane now : Indices) → slice_get lanes n ≡ Some lane → slice_get (set lanes n now) n ≡ Some now
+pub set_found : (lanes : List IndexLaneState) (n : ℕ) (lane now : IndexLaneState) → slice_get lanes n ≡ Some lane → slice_get (set lanes n now) n ≡ Some now
 set_found [] n lane now at = absurd (cc)
 set_found (l ∷ lanes) zero lane now at = refl
 set_found (l ∷ lanes) (suc n) lane now at = set_found lanes n lane now at
 
 -- one name more, where the index has one
 pub names-more : (items : List (Option Msg)) (ks : List ℕ) (n k : ℕ) → slice_get ks n ≡ Some k → names_at items (take (n + 1) ks) ≡ names_at items (take n ks) ++ option_to_list (name_at items k)
-names-more items ks n k at = rw (take-one ks n k at) (of_front (take n ks))
+names-more items ks n k at = rw (take_more ks n k at) (of_front (take n ks))
   where
     of_front : (js : List ℕ) → names_at items (js ++ k ∷ []) ≡ names_at items js ++ option_to_list (name_at items k)
     of_front [] = append-nil (option_to_list (name_at items k))
@@ -360,7 +356,7 @@ pub names-of : (items : List (Option Msg)) (pred : Pred) (most : ℕ) → names_
 names-of items pred most = names-fitting [] items pred 0 most refl
 
 -- the count of the lane that stands at a number
-pub count-told : (items now : List (Option Msg)) (lanes : List Indices) (n : ℕ) (lane : Indices) (pred : Pred) → now ≡ items → AreLanes now lanes → HasLane lanes n pred → lane ≡ get_or lanes n lane
+pub count-told : (items now : List (Option Msg)) (lanes : List IndexLaneState) (n : ℕ) (lane : IndexLaneState) (pred : Pred) → now ≡ items → AreLanes now lanes → HasLane lanes n pred → lane ≡ get_or lanes n lane
     → lane.count ≡ length (fitting pred (present items))
 count-told items now lanes n lane pred same are found read =
     let this : lane ≡ found.0 = read ∙ get_or_from_slice_get lanes n found.0 lane found.1 in
@@ -368,7 +364,7 @@ count-told items now lanes n lane pred same are found read =
     rw this (here.counted ∙ rw found.2 (length-fitting 0 pred items))
 
 -- the front of the lane that stands at a number
-pub front-told : (lanes : List Indices) (n most : ℕ) (lane : Indices) (front : List ℕ) → HasPrefix lanes n front most → lane ≡ get_or lanes n lane → take most lane.indices ≡ front
+pub front-told : (lanes : List IndexLaneState) (n most : ℕ) (lane : IndexLaneState) (front : List ℕ) → HasPrefix lanes n front most → lane ≡ get_or lanes n lane → take most lane.indices ≡ front
 front-told lanes n most lane front found read =
     let this : lane ≡ found.0 = read ∙ get_or_from_slice_get lanes n found.0 lane found.1 in
     rw this found.2

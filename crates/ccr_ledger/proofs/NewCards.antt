@@ -29,7 +29,7 @@ use Rattle.ccr_model.proofs.Roots.{root_own, root_resumed}
 use Rattle.ccr_model.proofs.SameNames.{same_task-is}
 use Rattle.ccr_model.proofs.Stable.{load_at-append}
 use Rattle.ccr_model.proofs.Suspending.{ResumeFacts}
-use Rattle.ccr_model.proofs.TaskPlaces.{ArePlaced-legal}
+use Rattle.ccr_model.proofs.WhoWasPut.{ArePlaced-legal}
 use Rattle.ccr_model.proofs.TaskSteps.{firing_named-fire}
 use Rattle.ccr_ledger.specs.declared.cards.Card.{Card}
 use Rattle.ccr_ledger.specs.declared.cards.TaskStage.TheVariants as stages

@@ -13,7 +13,7 @@ use Rattle.ccr_model.specs.Posts.{posts, taken, held}
 use Rattle.ccr_model.specs.Legal.{IsAllowed, IsLegal}
 use Rattle.ccr_model.proofs.OneMoreEvent.{posts-push}
 use Rattle.ccr_model.proofs.PostNames.{along, times, posted_once}
-use Rattle.ccr_model.proofs.TakenOnce.{times_named, named-append, named-choice, taken-push, times-filter, times-two, FireFacts-allowed}
+use Rattle.ccr_model.proofs.TakenOnce.{times_named, named-append, named-selection, taken-push, times-filter, times-two, FireFacts-allowed}
 use Rattle.ccr_model.proofs.LegalParts.{legal_push}
 use Rattle.ccr_model.proofs.SameNames.{same_message-self}
 use Rattle.ccr_base.proofs.Booleans.{refuted, not_false}
@@ -38,7 +38,7 @@ posted_kept w apart h (Fire t s ms cs) known allowed name some = more_posted h (
           now,
           none,
           named-append name (taken h) ms,
-          named-choice w h s name ms apart facts.choice_made,
+          named-selection w h s name ms apart facts.selection_made,
           times-filter name (λ (m : Msg). not (has_message (taken h) m.id)) (posts h),
         )
     of_count (suc n) many = known name (omega (arith, many))

@@ -27,7 +27,7 @@ pub record NewRoot (h : List Event) (t : TaskId) : Type 0 where
 pub NewRoot-allowed : (w : Parts) (h : List Event) (t : TaskId) → IsLegal w h → IsAllowed w h (Admit t) → NewRoot h t
 NewRoot-allowed w h t legal allowed =
     let facts = AdmitFacts-allowed w h t allowed in
-    let waits = WaitingFacts-waiting w h facts.place.domain t (OneName-legal w h legal) facts.waits in
+    let waits = WaitingFacts-waiting w h facts.placement.domain t (OneName-legal w h legal) facts.waits in
     record { is_fired = (waits.firing, waits.is_firing); not_ever_admitted = waits.not_ever_admitted; not_over = new_lasts w h legal t allowed }
 
 -- nobody is let in twice

@@ -15,7 +15,7 @@ use Rattle.ccr_wiring.proofs.Soundness.{sound}
 use Rattle.ccr_model.specs.declared.history.Event.{Event}
 use Rattle.ccr_model.specs.declared.history.Event.TheVariants.{Post, Fire, Admit, Put, Start, End}
 use Rattle.ccr_model.specs.declared.history.EndHow.{EndHow}
-use Rattle.ccr_model.specs.Choice.{is_choice_of, are_oldest}
+use Rattle.ccr_model.specs.Selection.{is_selection_of, are_oldest}
 use Rattle.ccr_model.specs.Posts.{held}
 use Rattle.ccr_model.specs.Legal.{IsAllowed, IsLegal}
 use Rattle.ccr_base.proofs.Booleans.{same_number}
@@ -85,10 +85,10 @@ are_held w h b legal sizes keeps = record {
 ports-branch : (w : Parts) → IsSound w → (h : List Event) (t : TaskId) (n : ℕ) (ms : List MsgId) (cs : List TaskId) (b : Books) → IsLegal w h → IsAllowed w h (Fire t (Branch n) ms cs) → HasSizes w b → KeepsPorts w h b
     → KeepsPorts w (h ++ Fire t (Branch n) ms cs ∷ []) (after_fire w t (Branch n) ms cs b)
 ports-branch w sound h t n ms cs b legal allowed sizes keeps =
-    let made = some_of (λ (s : Placement). is_choice_of (held h) s.branch.pattern ms) (placement w n) (FireFacts-allowed w h t (Branch n) ms cs allowed).choice_made in
+    let made = some_of (λ (s : Placement). is_selection_of (held h) s.branch.pattern ms) (placement w n) (FireFacts-allowed w h t (Branch n) ms cs allowed).selection_made in
     rw made.1 (record { ports = λ port low. rw (ports-cuts cs b) (port_left made.0 made.1 made.2 port low ∙ sym (held-fire h t (Branch n) ms cs port)) })
   where
-    port_left : (s : Placement) → placement w n ≡ Some s → is_choice_of (held h) s.branch.pattern ms ≡ true → (port : ℕ) → port < length w.ports → row (take_pattern s.branch.pattern ms b.ports).ports port ≡ filter (λ (m : Msg). not (has_message ms m.id)) (held h port)
+    port_left : (s : Placement) → placement w n ≡ Some s → is_selection_of (held h) s.branch.pattern ms ≡ true → (port : ℕ) → port < length w.ports → row (take_pattern s.branch.pattern ms b.ports).ports port ≡ filter (λ (m : Msg). not (has_message ms m.id)) (held h port)
     port_left s at is port low =
         pattern_left s.branch.pattern ms b.ports (held h) (are_held w h b legal sizes keeps) (sound.apart n s at) (λ index p there. omega (arith, sizes.ports, sound.pattern_ports n s index p at there)) is port (omega (arith, low, sizes.ports))
 
@@ -104,7 +104,7 @@ ports-site : (w : Parts) (h : List Event) (t : TaskId) (n k : ℕ) (ms : List Ms
     → KeepsPorts w (h ++ Fire t (Site n k) ms cs ∷ []) (after_fire w t (Site n k) ms cs b)
 ports-site w h t n k ms cs b legal allowed keeps =
     let card = has_resumed w h n k b keeps (ResumeFacts-allowed w h t n k ms cs allowed) in
-    let made = some_of (λ p. are_oldest (held h p) ms) (site_port w n k) (FireFacts-allowed w h t (Site n k) ms cs allowed).choice_made in
+    let made = some_of (λ p. are_oldest (held h p) ms) (site_port w n k) (FireFacts-allowed w h t (Site n k) ms cs allowed).selection_made in
     rw (card.1, made.1) (record {
       ports = λ port low. site_left made.0 ms b.ports (held h) (are_held w h b legal keeps.sizes keeps.ports) made.2 port (omega (arith, low, keeps.sizes.ports)) ∙ sym (held-fire h t (Site n k) ms cs port);
     })

@@ -7,22 +7,23 @@ use Rattle.ccr_base.specs.declared.messages.Msg.{Msg}
 use Rattle.ccr_base.specs.declared.patterns.Slot.{Slot}
 use Rattle.ccr_base.specs.declared.patterns.Pattern.{Pattern}
 use Rattle.ccr_base.specs.declared.patterns.Pattern.TheVariants.{Slots, Gather}
-use Rattle.ccr_base.specs.Choice.{holds, fitting, choice}
+use Rattle.ccr_base.specs.Selection.{holds, fitting, selection}
 use Rattle.ccr_base.specs.Names.{same_message, same_lists}
 use Rattle.ccr_wiring.specs.Repeats.{slot_ports, names_ports_once}
 use Rattle.ccr_wiring.specs.Spots.{pattern_ports}
 use Rattle.ccr_ledger.specs.Rows.{row, with_row}
 use Rattle.ccr_ledger.specs.Taken.{without_some, shared}
-use Rattle.ccr_model.specs.Choice.{names_of, choice_of_slots, are_first, are_split, is_choice_of, are_oldest}
+use Rattle.ccr_model.specs.Selection.{names_of, selection_of_slots, are_first, are_split, is_selection_of, are_oldest}
 use Rattle.ccr_model.proofs.PostNames.{times}
-use Rattle.ccr_model.proofs.TakenOnce.{joined_some, choice_some, times-filter, times-take}
+use Rattle.ccr_model.proofs.TakenOnce.{joined_some, selection_some, times-filter, times-take}
 use Rattle.ccr_model.proofs.FirstNames.{names_of-append, same_names}
+use Rattle.ccr_model.proofs.MessageNames.{left_by}
 use Rattle.ccr_base.proofs.Options.{some_of}
 use Rattle.ccr_base.proofs.Booleans.{both, neither, not_true, same_number, eq_turned}
 use Rattle.ccr_base.specs.Lists.{has_number, are_apart}
 use Rattle.ccr_ledger.specs.Taking.{take_slot, take_slots, take_oldest, take_gather, take_pattern}
 use Rattle.ccr_ledger.proofs.Tables.{length-with_row, row-with_row}
-use Rattle.ccr_ledger.proofs.Fitting.{left_by, none_left, left_both, times-left, apart_left, some-named, oldest-named, first-names, split-names}
+use Rattle.ccr_ledger.proofs.Fitting.{none_left, left_both, times-left, apart_left, some-named, oldest-named, first-names, split-names}
 
 -- the rows are what the ports hold, and no two messages of these have one name
 pub record AreHeld (ports : List (List Msg)) (held_at : ℕ → List Msg) : Type 0 where
@@ -69,24 +70,24 @@ module _ (ports : List (List Msg)) (held_at : ℕ → List Msg) (are : AreHeld p
   slot_left = are_left ports held_at are slot.port chosen (without_some slot.most slot.pred) few_chosen named_chosen
 
   -- slots of other ports choose as before
-  choice_kept : (slots : List Slot) → has_number (slot_ports slots) slot.port ≡ false → choice_of_slots (λ p. left_by (names_of chosen) (held_at p)) slots ≡ choice_of_slots held_at slots
-  choice_kept [] out = refl
-  choice_kept (other ∷ slots) out =
+  selection_kept : (slots : List Slot) → has_number (slot_ports slots) slot.port ≡ false → selection_of_slots (λ p. left_by (names_of chosen) (held_at p)) slots ≡ selection_of_slots held_at slots
+  selection_kept [] out = refl
+  selection_kept (other ∷ slots) out =
       let parts = neither (other.port == slot.port) (has_number (slot_ports slots) slot.port) out in
       let kept = other_kept ports held_at are slot.port chosen (without_some slot.most slot.pred) few_chosen named_chosen other.port (eq_turned other.port slot.port parts.0) in
-      rw (kept, choice_kept slots parts.1) refl
+      rw (kept, selection_kept slots parts.1) refl
 
 -- slot by slot
-slots_left : (slots : List Slot) (ports : List (List Msg)) (held_at : ℕ → List Msg) (ms : List Msg) → AreHeld ports held_at → are_apart (slot_ports slots) ≡ true → choice_of_slots held_at slots ≡ Some ms
+slots_left : (slots : List Slot) (ports : List (List Msg)) (held_at : ℕ → List Msg) (ms : List Msg) → AreHeld ports held_at → are_apart (slot_ports slots) ≡ true → selection_of_slots held_at slots ≡ Some ms
     → (p : ℕ) → p < length ports → row (take_slots slots ports).ports p ≡ left_by (names_of ms) (held_at p)
 slots_left [] ports held_at ms are once is p low = let none : ms ≡ [] = cc in rw none (are.told p low ∙ sym (none_left (held_at p)))
 slots_left (slot ∷ slots) ports held_at ms are once is p low =
-    let parts = joined_some (choice slot (held_at slot.port)) (choice_of_slots held_at slots) ms is in
+    let parts = joined_some (selection slot (held_at slot.port)) (selection_of_slots held_at slots) ms is in
     let ports_apart = both (not (has_number (slot_ports slots) slot.port)) (are_apart (slot_ports slots)) once in
     let out = not_true (has_number (slot_ports slots) slot.port) ports_apart.0 in
     let front = names_of (chosen ports held_at are slot) in
-    let rest = slots_left slots (take_slot slot ports).ports (λ q. left_by front (held_at q)) parts.1 (slot_left ports held_at are slot) ports_apart.1 (choice_kept ports held_at are slot slots out ∙ parts.3) p (rw length-with_row low) in
-    let names : names_of ms ≡ front ++ names_of parts.1 = ap names_of (sym parts.4) ∙ (names_of-append parts.0 parts.1 ∙ ap (λ ms. names_of ms ++ names_of parts.1) (choice_some slot (held_at slot.port) parts.0 parts.2)) in
+    let rest = slots_left slots (take_slot slot ports).ports (λ q. left_by front (held_at q)) parts.1 (slot_left ports held_at are slot) ports_apart.1 (selection_kept ports held_at are slot slots out ∙ parts.3) p (rw length-with_row low) in
+    let names : names_of ms ≡ front ++ names_of parts.1 = ap names_of (sym parts.4) ∙ (names_of-append parts.0 parts.1 ∙ ap (λ ms. names_of ms ++ names_of parts.1) (selection_some slot (held_at slot.port) parts.0 parts.2)) in
     rest ∙ (sym (left_both front (names_of parts.1) (held_at p)) ∙ ap (λ ns. left_by ns (held_at p)) (sym names))
 
 -- ---- the oldest of a port
@@ -123,10 +124,10 @@ gather_left first second names ports held_at are other low_first split p low =
 -- ---- what a pattern takes, and what a site takes
 
 pub pattern_left : (pattern : Pattern) (names : List MsgId) (ports : List (List Msg)) (held_at : ℕ → List Msg) → AreHeld ports held_at → names_ports_once pattern ≡ true
-    → ((index port : ℕ) → slice_get (pattern_ports pattern) index ≡ Some port → port < length ports) → is_choice_of held_at pattern names ≡ true
+    → ((index port : ℕ) → slice_get (pattern_ports pattern) index ≡ Some port → port < length ports) → is_selection_of held_at pattern names ≡ true
     → (p : ℕ) → p < length ports → row (take_pattern pattern names ports).ports p ≡ left_by names (held_at p)
 pattern_left (Slots slots) names ports held_at are once low_ports is p low =
-    let made = some_of (λ (messages : List Msg). same_lists same_message (names_of messages) names) (choice_of_slots held_at slots) is in
+    let made = some_of (λ (messages : List Msg). same_lists same_message (names_of messages) names) (selection_of_slots held_at slots) is in
     slots_left slots ports held_at made.0 are once made.1 p low ∙ ap (λ ns. left_by ns (held_at p)) (sym (same_names made.0 names made.2))
 pattern_left (Gather total first second) names ports held_at are once low_ports is p low =
     gather_left first second names ports held_at are (not_true (first == second) once) (low_ports 0 first refl) (both (length names == total) (are_split (held_at first) (held_at second) names) is).1 p low

@@ -4,7 +4,7 @@ use Rattle.std.specs.Prelude.{◌==◌}
 use Rattle.ccr_base.specs.declared.names.MsgId.{MsgId}
 use Rattle.ccr_base.specs.declared.messages.Msg.{Msg}
 use Rattle.ccr_base.specs.Names.{same_message}
-use Rattle.ccr_model.specs.Choice.{names_of, are_first, are_split, are_oldest}
+use Rattle.ccr_model.specs.Selection.{names_of, are_first, are_split, are_oldest}
 use Rattle.ccr_base.proofs.Booleans.{eq-self}
 use Rattle.ccr_ledger.specs.Prefixes.{are_prefix, are_prefixes}
 

@@ -18,7 +18,7 @@ use Rattle.ccr_model.proofs.OneMoreEvent.{put-push, started-push, dropped-push}
 use Rattle.ccr_model.proofs.TasksLeft.{filter_on}
 use Rattle.ccr_model.proofs.TaskLists.{has_oldest, not_more, none_gone}
 use Rattle.ccr_model.proofs.TaskSteps.{queued-start, queued-put, queued-fire}
-use Rattle.ccr_model.proofs.TaskPlaces.{ArePlaced-legal, PutFacts-allowed, QueuedFacts-queued, StartFacts-allowed, new_drop}
+use Rattle.ccr_model.proofs.WhoWasPut.{ArePlaced-legal, PutFacts-allowed, QueuedFacts-queued, StartFacts-allowed, new_drop}
 use Rattle.ccr_model.proofs.AllowedDrops.{drop_allowed}
 use Rattle.ccr_model.proofs.FiredTasks.{fired_has, placement_fired}
 use Rattle.ccr_model.proofs.AllowedFirings.{FiresSo-allowed, firings-other}
@@ -104,8 +104,8 @@ module _ (w : Parts) (h : List Event) (t : TaskId) (b : Books) (legal : IsLegal 
   queued-event-start : (a : ℕ) → IsAllowed w h (Start t a) → SaysQueued w (h ++ Start t a ∷ []) (after_event w (Start t a) b).queued
   queued-event-start a allowed q low =
       let so = StartFacts-allowed w h t a allowed in
-      let facts = CardFacts-fired w h t b legal tasks (placement_fired w h t so.place so.is_place) in
-      ap (λ (r : Rows). row r.queued q) (rows-start w t a b facts.card facts.is_card) ∙ (queued-left w h t b so.place.branch.queue so.others legal sizes known facts so.is_oldest q low ∙ sym (queued-start w h q t a))
+      let facts = CardFacts-fired w h t b legal tasks (placement_fired w h t so.placement so.is_placement) in
+      ap (λ (r : Rows). row r.queued q) (rows-start w t a b facts.card facts.is_card) ∙ (queued-left w h t b so.placement.branch.queue so.others legal sizes known facts so.is_oldest q low ∙ sym (queued-start w h q t a))
 
 pub queued-event : (w : Parts) (h : List Event) (e : Event) (b : Books) → IsLegal w h → IsAllowed w h e → HasSizes w b → KeepsTasks w h b → SaysQueued w h b.queued → SaysQueued w (h ++ e ∷ []) (after_event w e b).queued
 queued-event w h (Put t d) b legal allowed sizes tasks known q low = queued-event-put w h t b legal sizes tasks known d allowed q low

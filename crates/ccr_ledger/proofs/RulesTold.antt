@@ -19,7 +19,7 @@ use Rattle.ccr_model.specs.Legal.{IsLegal}
 use Rattle.ccr_base.proofs.Booleans.{and_false}
 use Rattle.ccr_model.proofs.SameNames.{same_task-sym}
 use Rattle.ccr_model.proofs.TasksLeft.{filter_on}
-use Rattle.ccr_model.proofs.TaskPlaces.{ArePlaced-legal}
+use Rattle.ccr_model.proofs.WhoWasPut.{ArePlaced-legal}
 use Rattle.ccr_model.proofs.Ending.{AreEnded-legal}
 use Rattle.ccr_ledger.specs.Rows.{row}
 use Rattle.ccr_ledger.specs.declared.cards.Card.{Card}
@@ -93,8 +93,8 @@ module _ (w : Parts) (valid : IsValid w) (h : List Event) (legal : IsLegal w h) 
       of_firing : (o : Option Firing) → firing_named h t ≡ o → option_map_or (λ (card : Card). is_first (row b.waiting card.domain) t) (option_map (card_of w h t) o) false ≡ is_oldest_waiting w h t
       of_firing None at = rw at refl
       of_firing (Some f) at =
-          let place = with_placement w valid h legal b keeps t f at in
-          rw (place.1, place.2, keeps.rows.waiting place.0.domain (arbiter_within w valid (branch_of f.spot) place.0 place.1)) refl
+          let found = with_placement w valid h legal b keeps t f at in
+          rw (found.1, found.2, keeps.rows.waiting found.0.domain (arbiter_within w valid (branch_of f.spot) found.0 found.1)) refl
 
   pub queued_first_told : (t : TaskId) → queued_first b t ≡ is_oldest_queued w h t
   queued_first_told t = rw (keeps.tasks.cards t) (of_firing (firing_named h t) refl)
@@ -102,8 +102,8 @@ module _ (w : Parts) (valid : IsValid w) (h : List Event) (legal : IsLegal w h) 
       of_firing : (o : Option Firing) → firing_named h t ≡ o → option_map_or (λ (card : Card). is_first (row b.queued card.queue) t) (option_map (card_of w h t) o) false ≡ is_oldest_queued w h t
       of_firing None at = rw at refl
       of_firing (Some f) at =
-          let place = with_placement w valid h legal b keeps t f at in
-          rw (place.1, place.2, keeps.rows.queued place.0.branch.queue ((sound w valid).queues (branch_of f.spot) place.0 place.1)) refl
+          let found = with_placement w valid h legal b keeps t f at in
+          rw (found.1, found.2, keeps.rows.queued found.0.branch.queue ((sound w valid).queues (branch_of f.spot) found.0 found.1)) refl
 
   pub is_ready_told : (t : TaskId) → is_ready b t ≡ may_put w h t
   is_ready_told t = rw (keeps.tasks.cards t) (of_firing (firing_named h t) refl)

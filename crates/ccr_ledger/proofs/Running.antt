@@ -18,7 +18,7 @@ use Rattle.ccr_model.specs.Firings.{ended}
 use Rattle.ccr_model.specs.Tasks.{running}
 use Rattle.ccr_model.specs.Legal.{IsAllowed, IsLegal}
 use Rattle.ccr_model.proofs.TaskSteps.{running-start, running-end, running-post, running-fire, running-put, running-admit}
-use Rattle.ccr_model.proofs.TaskPlaces.{StartFacts-allowed, StartFacts-queued, ArePlaced-legal}
+use Rattle.ccr_model.proofs.WhoWasPut.{StartFacts-allowed, StartFacts-queued, ArePlaced-legal}
 use Rattle.ccr_model.proofs.Ending.{RunningFacts-allowed, AreEnded-legal}
 use Rattle.ccr_model.proofs.FiredTasks.{IsFired, placement_fired}
 use Rattle.ccr_base.proofs.Booleans.{refuted, no_both}
@@ -96,7 +96,7 @@ running-event w h (Admit t) b legal allowed tasks keeps = ap runners (by_card b 
 running-event w h (Put t d) b legal allowed tasks keeps = ap runners (by_card b (card_at b.tasks t) _ (λ c. same-dropped d b)) ∙ (keeps ∙ sym (running-put h t d))
 running-event w h (Start t a) b legal allowed tasks keeps =
     let facts = StartFacts-allowed w h t a allowed in
-    let card = has_card w h t b tasks (placement_fired w h t facts.place facts.is_place) in
+    let card = has_card w h t b tasks (placement_fired w h t facts.placement facts.is_placement) in
     rw card.1 (map-append (λ (r : Runner). r.task) b.running _ ∙ (ap (λ ts. ts ++ t ∷ []) keeps ∙ sym (running-start h t a (unended w h t a legal allowed))))
 running-event w h (End t how) b legal allowed tasks keeps =
     let placed = ArePlaced-legal w h legal in

@@ -16,7 +16,7 @@ use Rattle.ccr_base.proofs.Filters.{filter_swap}
 use Rattle.ccr_model.proofs.OneMoreEvent.{ended-push}
 use Rattle.ccr_model.proofs.TasksLeft.{without_both}
 use Rattle.ccr_model.proofs.TaskLists.{without-append}
-use Rattle.ccr_model.proofs.TaskPlaces.{ArePlaced-legal, StartFacts-allowed}
+use Rattle.ccr_model.proofs.WhoWasPut.{ArePlaced-legal, StartFacts-allowed}
 use Rattle.ccr_model.proofs.Ending.{RunningFacts-allowed}
 use Rattle.ccr_model.proofs.FiredTasks.{placement_fired}
 use Rattle.ccr_ledger.specs.declared.cards.Runner.{Runner}
@@ -70,7 +70,7 @@ runners-less a rs t = ap runners (filter_swap (λ (r : Runner). r.actor == a) (�
 pub running_by-event : (w : Parts) (h : List Event) (e : Event) (b : Books) → IsLegal w h → IsAllowed w h e → KeepsTasks w h b → SaysRunners h b.running → SaysRunners (h ++ e ∷ []) (after_event w e b).running
 running_by-event w h (Start t by) b legal allowed tasks known a =
     let facts = StartFacts-allowed w h t by allowed in
-    let card = has_card w h t b tasks (placement_fired w h t facts.place facts.is_place) in
+    let card = has_card w h t b tasks (placement_fired w h t facts.placement facts.is_placement) in
     rw card.1 (runners-more a b.running t by ∙ (ap (λ ts. ts ++ (if by == a then t ∷ [] else [])) (known a) ∙ sym (running_by-start h t by a (unended w h t by legal allowed))))
 running_by-event w h (End t how) b legal allowed tasks known a =
     let placed = ArePlaced-legal w h legal in

@@ -23,7 +23,7 @@ use Rattle.ccr_model.proofs.LegalParts.{legal_push}
 use Rattle.ccr_model.proofs.OneMoreEvent.{put-push, started-push, dropped-push, ended-push, ever_admitted-push, cut-push}
 use Rattle.ccr_model.proofs.SameNames.{same_task-is, same_task-sym}
 use Rattle.ccr_model.proofs.TaskLists.{among_right, not_within}
-use Rattle.ccr_model.proofs.TaskPlaces.{ArePlaced-legal, PutFacts-allowed, new_drop}
+use Rattle.ccr_model.proofs.WhoWasPut.{ArePlaced-legal, PutFacts-allowed, new_drop}
 use Rattle.ccr_model.proofs.TasksLeft.{has_task-append}
 use Rattle.ccr_ledger.specs.declared.cards.TaskStage.{TaskStage}
 use Rattle.ccr_ledger.specs.declared.cards.TaskStage.TheVariants as stages
@@ -160,8 +160,8 @@ module _ (w : Parts) (h : List Event) where
   pub stage-admit : (t u : TaskId) (s : Spot) → IsLegal w h → IsAllowed w h (Admit t) → stage_of w (h ++ Admit t ∷ []) u s ≡ (if same_task t u then stages.Ready else stage_of w h u s)
   stage-admit t u s legal allowed =
       let facts = AdmitFacts-allowed w h t allowed in
-      let waits = WaitingFacts-waiting w h facts.place.domain t (OneName-legal w h legal) facts.waits in
-      let no_put = waits_unput w h facts.place.domain t (CutFacts-legal w h legal) waits in
+      let waits = WaitingFacts-waiting w h facts.placement.domain t (OneName-legal w h legal) facts.waits in
+      let no_put = waits_unput w h facts.placement.domain t (CutFacts-legal w h legal) waits in
       stage-push (Admit t) u s ∙ rw (append-nil (ended h), append-nil (started h), append-nil (dropped h), append-nil (put h), append-nil (cut h)) (in-admit (ended h) (started h) (dropped h) (put h) (cut h) (ever_admitted h) (needs_no_admission w s) t u (unput t legal no_put) waits.not_cut)
 
   pub stage-put : (t : TaskId) (d : Option TaskId) (u : TaskId) (s : Spot) → IsLegal w h → IsAllowed w h (Put t d)

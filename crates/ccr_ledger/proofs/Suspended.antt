@@ -29,7 +29,7 @@ use Rattle.ccr_base.proofs.Options.{some-below}
 use Rattle.ccr_model.proofs.PlayPast.{play_at-past}
 use Rattle.ccr_model.proofs.PostNames.{refused_not}
 use Rattle.ccr_model.proofs.Suspending.{ResumeFacts, ResumeFacts-allowed, suspended-other, suspended-branch, suspended-elsewhere, suspended-here, same_site, end_fired}
-use Rattle.ccr_model.proofs.TaskPlaces.{ArePlaced, ArePlaced-legal}
+use Rattle.ccr_model.proofs.WhoWasPut.{ArePlaced, ArePlaced-legal}
 use Rattle.ccr_ledger.specs.Rows.{row, with_row}
 use Rattle.ccr_ledger.specs.Books.{Books, card_at, suspended_at, with_suspended}
 use Rattle.ccr_ledger.specs.Firing.{resumed_card}
@@ -141,7 +141,7 @@ suspended-event-yield : (w : Parts) → IsValid w → (h : List Event) (t : Task
 suspended-event-yield w valid h t b legal allowed sizes tasks known c l =
     ap (λ (r : Rows). suspended_at r.suspended c l) (rows-yield w t b facts.card facts.is_card)
     ∙ (ap (λ s. suspended_at (with_suspended b.suspended (branch_of s) (segment_of s) (suspended_at b.suspended (branch_of s) (segment_of s) ++ t ∷ [])) c l) facts.spot
-    ∙ (suspended-set b.suspended n k c l (suspended_at b.suspended n k ++ t ∷ []) early (omega (arith, early, sizes.suspended, some-below (placements w) n facts.place facts.is_place))
+    ∙ (suspended-set b.suspended n k c l (suspended_at b.suspended n k ++ t ∷ []) early (omega (arith, early, sizes.suspended, some-below (placements w) n facts.placement facts.sits))
     ∙ (of_test ((n == c) && (k == l)) refl
     ∙ (ap (λ is. suspended h (Site c l) ++ (if is then t ∷ [] else [])) (sym yields_so)
     ∙ sym (suspended-other w h (End t ends.Yield) c l refl legal (end_fired w h t ends.Yield legal allowed))))))

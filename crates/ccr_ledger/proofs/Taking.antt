@@ -7,7 +7,7 @@ use Rattle.ccr_base.specs.declared.names.MsgId.{MsgId}
 use Rattle.ccr_base.specs.declared.messages.Msg.{Msg}
 use Rattle.ccr_base.specs.declared.patterns.Pred.{Pred}
 use Rattle.ccr_base.specs.declared.patterns.Pred.TheVariants.{Any}
-use Rattle.ccr_base.specs.Choice.{holds, fitting}
+use Rattle.ccr_base.specs.Selection.{holds, fitting}
 use Rattle.ccr_base.specs.Names.{same_message}
 use Rattle.ccr_ledger.specs.Lanes.{present}
 use Rattle.ccr_ledger.proofs.Lanes.{IsFirst}

@@ -1,35 +1,27 @@
 -- The card of a task that fired, and the placement of its branch.
-use Rattle.std.proofs.Common.{◌≡◌, ℕ, inl, inr, Bool, true, false, List, [], ◌∷◌, Option, Some, refl, sym, ap, ◌∙◌}
-use Rattle.std.specs.Prelude.{◌==◌, if◌then◌else◌, find, option_map}
+use Rattle.std.proofs.Common.{◌≡◌, ℕ, Bool, true, false, List, Option, Some, refl, sym, ap, ◌∙◌}
+use Rattle.std.specs.Prelude.{◌==◌, if◌then◌else◌, option_map}
 use Rattle.std.specs.Option.{option_map_or}
 use Rattle.ccr_base.specs.declared.names.TaskId.{TaskId}
 use Rattle.ccr_base.specs.Names.{same_task}
 use Rattle.ccr_wiring.specs.declared.parts.Parts.{Parts}
 use Rattle.ccr_wiring.specs.Wirings.{Placement, placement, branch_of}
+use Rattle.ccr_wiring.specs.Wirings as wirings
 use Rattle.ccr_model.specs.declared.history.Event.{Event}
 use Rattle.ccr_model.specs.Firings.{Firing, firings, firing_named}
 use Rattle.ccr_model.specs.TaskData.{placement_of}
 use Rattle.ccr_model.specs.Sites.{root_of}
 use Rattle.ccr_model.specs.Tasks.{is_for_queue, is_concurrent}
 use Rattle.ccr_model.specs.Legal.{IsLegal}
-use Rattle.ccr_model.proofs.Members.{Among}
+use Rattle.ccr_model.proofs.Members.{found_among}
 use Rattle.ccr_model.proofs.FiringPlacements.{firing_with_placement}
 use Rattle.ccr_model.proofs.FiredTasks.{IsFired}
-use Rattle.ccr_model.proofs.TaskPlaces.{placement_by}
+use Rattle.ccr_model.proofs.WhoWasPut.{placement_by}
 use Rattle.ccr_ledger.specs.declared.cards.Card.{Card}
 use Rattle.ccr_ledger.specs.declared.cards.TaskStage.{TaskStage}
 use Rattle.ccr_ledger.specs.Books.{Books, card_at, in_stage, moved}
 use Rattle.ccr_ledger.specs.Kept.{KeepsTasks, card_of, is_admitted}
 use Rattle.ccr_ledger.proofs.Tables.{card-changed}
-
--- who is found is among them
-pub found_among : (p : Firing → Bool) (fs : List Firing) (f : Firing) → find p fs ≡ Some f → Among f fs
-found_among p [] f is = absurd (cc)
-found_among p (g ∷ fs) f is = of_test (p g) is (found_among p fs f)
-  where
-    of_test : (b : Bool) → (if b then Some g else find p fs) ≡ Some f → (find p fs ≡ Some f → Among f fs) → Among f (g ∷ fs)
-    of_test true at rest = let same : f ≡ g = cc in inl same
-    of_test false at rest = inr (rest at)
 
 -- what stands on the card of a task that fired
 pub record CardFacts (w : Parts) (h : List Event) (t : TaskId) (b : Books) : Type 0 where
@@ -37,13 +29,13 @@ pub record CardFacts (w : Parts) (h : List Event) (t : TaskId) (b : Books) : Typ
   pub is_card : card_at b.tasks t ≡ Some card
   pub firing : Firing
   pub is_firing : firing_named h t ≡ Some firing
-  pub place : Placement
-  pub is_place : placement w (branch_of firing.spot) ≡ Some place
-  pub is_placement : placement_of w h t ≡ Some place
+  pub placement : Placement
+  pub sits : wirings.placement w (branch_of firing.spot) ≡ Some placement
+  pub is_placement : placement_of w h t ≡ Some placement
   pub spot : card.spot ≡ firing.spot
-  pub queue : card.queue ≡ place.branch.queue
-  pub domain : card.domain ≡ place.domain
-  pub concurrent : card.concurrent ≡ is_concurrent place.branch.group
+  pub queue : card.queue ≡ placement.branch.queue
+  pub domain : card.domain ≡ placement.domain
+  pub concurrent : card.concurrent ≡ is_concurrent placement.branch.group
   pub root : card.root ≡ root_of h t
   pub admitted : card.admitted ≡ is_admitted h t
 
@@ -56,8 +48,8 @@ CardFacts-fired w h t b legal tasks fired =
       is_card = tasks.cards t ∙ ap (option_map (card_of w h t)) fired.1;
       firing = f;
       is_firing = fired.1;
-      place = with_placement.0;
-      is_place = with_placement.1;
+      placement = with_placement.0;
+      sits = with_placement.1;
       is_placement = placement_by w h t f fired.1 ∙ with_placement.1;
       spot = refl;
       queue = ap (λ o. option_map_or (λ (s : Placement). s.branch.queue) o 0) with_placement.1;
@@ -80,8 +72,8 @@ card_moved w h stage x b d t same facts = of_test (same_task x t) refl
       is_card = at ∙ rw other facts.is_card;
       firing = facts.firing;
       is_firing = facts.is_firing;
-      place = facts.place;
-      is_place = facts.is_place;
+      placement = facts.placement;
+      sits = facts.sits;
       is_placement = facts.is_placement;
       spot = facts.spot;
       queue = facts.queue;
@@ -95,8 +87,8 @@ card_moved w h stage x b d t same facts = of_test (same_task x t) refl
       is_card = at ∙ rw (here, facts.is_card) refl;
       firing = facts.firing;
       is_firing = facts.is_firing;
-      place = facts.place;
-      is_place = facts.is_place;
+      placement = facts.placement;
+      sits = facts.sits;
       is_placement = facts.is_placement;
       spot = facts.spot;
       queue = facts.queue;

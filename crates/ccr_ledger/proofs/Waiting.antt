@@ -157,7 +157,7 @@ waiting-event-admit w h t b legal allowed sizes tasks known i low =
     let found = some_of (λ (s : Placement). is_first (waiting w h s.domain) t) (placement_of w h t) first in
     let head = first_rest (waiting w h found.0.domain) t found.2 in
     let facts = CardFacts-fired w h t b legal tasks (placement_fired w h t found.0 found.1) in
-    let own : facts.card.domain ≡ found.0.domain = facts.domain ∙ ap (λ (s : Placement). s.domain) (same_placement facts.place found.0 (placement_of w h t) facts.is_placement found.1) in
+    let own : facts.card.domain ≡ found.0.domain = facts.domain ∙ ap (λ (s : Placement). s.domain) (same_placement facts.placement found.0 (placement_of w h t) facts.is_placement found.1) in
     let oldest : waiting w h facts.card.domain ≡ t ∷ head.0 = ap (waiting w h) own ∙ head.1 in
     ap (λ (r : Rows). row r.waiting i) (rows-admit w t b facts.card facts.is_card)
     ∙ (row-left b.waiting (waiting w h) facts.card.domain i t head.0 (omega (arith, low, sizes.waiting)) (known i low) oldest (waiting_once w h facts.card.domain legal)

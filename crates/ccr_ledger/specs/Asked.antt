@@ -18,7 +18,7 @@ use Rattle.ccr_wiring.specs.Wirings.{Placement, placement, site_port, policy_of}
 use Rattle.ccr_model.specs.TaskData.{no_play}
 use Rattle.ccr_model.specs.Tasks.{is_teardown}
 use Rattle.ccr_model.specs.Live.{is_none_of}
-use Rattle.ccr_model.specs.Choice.{engine_choice_of, oldest, is_choice_of, are_oldest}
+use Rattle.ccr_model.specs.Selection.{engine_selection_of, oldest, is_selection_of, are_oldest}
 use Rattle.ccr_model.specs.Enough.{has_enough}
 use Rattle.ccr_model.specs.Rules.{is_first, drop_by}
 use Rattle.ccr_ledger.specs.Rows.{row}
@@ -49,15 +49,15 @@ abbrev pub can_choose : Parts → Books → Spot → Bool
 can_choose wiring books (Branch branch) = option_map_or (λ (s : Placement). has_enough (row books.ports) s.branch.pattern) (placement wiring branch) false
 can_choose wiring books (Site branch site) = option_map_or (λ port. nat_lt 0 (length (row books.ports port))) (site_port wiring branch site) false
 
--- the choice that one thread makes at the spot
-abbrev pub choice_at : Parts → Books → Spot → Option (List Msg)
-choice_at wiring books (Branch branch) = option_and_then (λ (s : Placement). engine_choice_of (row books.ports) s.branch.pattern) (placement wiring branch)
-choice_at wiring books (Site branch site) = option_and_then (λ port. oldest (row books.ports port)) (site_port wiring branch site)
+-- the selection that one thread makes at the spot
+abbrev pub selection_at : Parts → Books → Spot → Option (List Msg)
+selection_at wiring books (Branch branch) = option_and_then (λ (s : Placement). engine_selection_of (row books.ports) s.branch.pattern) (placement wiring branch)
+selection_at wiring books (Site branch site) = option_and_then (λ port. oldest (row books.ports port)) (site_port wiring branch site)
 
--- whether the names are a choice at the spot
-abbrev pub are_choice : Parts → Books → Spot → List MsgId → Bool
-are_choice wiring books (Branch branch) names = option_map_or (λ (s : Placement). is_choice_of (row books.ports) s.branch.pattern names) (placement wiring branch) false
-are_choice wiring books (Site branch site) names = option_map_or (λ port. are_oldest (row books.ports port) names) (site_port wiring branch site) false
+-- whether the names are a selection at the spot
+abbrev pub are_selected : Parts → Books → Spot → List MsgId → Bool
+are_selected wiring books (Branch branch) names = option_map_or (λ (s : Placement). is_selection_of (row books.ports) s.branch.pattern names) (placement wiring branch) false
+are_selected wiring books (Site branch site) names = option_map_or (λ port. are_oldest (row books.ports port) names) (site_port wiring branch site) false
 
 -- rule 7: whether a queue of the policy lets a branch fire
 abbrev pub queue_has_room : Books → ℕ → Policy → Bool

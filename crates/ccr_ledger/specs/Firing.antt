@@ -74,8 +74,8 @@ abbrev pub first_card : Parts → TaskId → ℕ → Placement → ℕ → List 
 first_card wiring task branch s fired_before names ports = branch_card wiring task branch s fired_before (with_messages no_load (take_pattern s.branch.pattern names ports).messages)
 
 -- the tables of the arbiter's and the branch's firings
-abbrev pub after_choice : ℕ → Placement → Books → Books
-after_choice branch s books = record books {
+abbrev pub after_flags : ℕ → Placement → Books → Books
+after_flags branch s books = record books {
   spent = raised branch books.spent;
   chosen = raised s.domain books.chosen;
   torn = if is_teardown s.branch.group then raised s.domain books.torn else books.torn;
@@ -92,7 +92,7 @@ after_new task card s books = record books {
 -- the branch fires the task, which takes these messages and leaves these ports
 abbrev pub after_branch : Parts → TaskId → ℕ → Placement → Takes → Books → Books
 after_branch wiring task branch s takes books =
-    after_choice branch s (after_new task (branch_card wiring task branch s (length books.tasks) (with_messages no_load takes.messages)) s (record books { ports = takes.ports }))
+    after_flags branch s (after_new task (branch_card wiring task branch s (length books.tasks) (with_messages no_load takes.messages)) s (record books { ports = takes.ports }))
 
 -- the branch fires the task, which takes the messages of these names, after the cuts
 abbrev pub after_taking : Parts → TaskId → ℕ → List MsgId → Books → Placement → Books

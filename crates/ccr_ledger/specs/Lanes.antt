@@ -5,10 +5,10 @@ use Rattle.std.specs.Option.{option_map_or}
 use Rattle.ccr_base.specs.declared.names.MsgId.{MsgId}
 use Rattle.ccr_base.specs.declared.messages.Msg.{Msg}
 use Rattle.ccr_base.specs.declared.patterns.Pred.{Pred}
-use Rattle.ccr_base.specs.Choice.{holds}
+use Rattle.ccr_base.specs.Selection.{holds}
 
 -- the predicate of a lane, its indices, and how many messages that satisfy the predicate are there
-pub record Indices : Type 0 where
+pub record IndexLaneState : Type 0 where
   pub pred : Pred
   pub indices : List ℕ
   pub count : ℕ
@@ -31,36 +31,36 @@ fitting_indices index pred [] = []
 fitting_indices index pred (item ∷ items) = if fits pred item then index ∷ fitting_indices (index + 1) pred items else fitting_indices (index + 1) pred items
 
 -- the lane with the index last and one message more, where the value satisfies its predicate
-abbrev pub entered : ℕ → List ℕ → Indices → Indices
+abbrev pub entered : ℕ → List ℕ → IndexLaneState → IndexLaneState
 entered index value lane = if holds lane.pred value then record lane { indices = lane.indices ++ index ∷ []; count = lane.count + 1 } else lane
 
 -- the lane with one message less, where the value satisfies its predicate
-abbrev pub lost : List ℕ → Indices → Indices
+abbrev pub lost : List ℕ → IndexLaneState → IndexLaneState
 lost value lane = if holds lane.pred value then record lane { count = lane.count - 1 } else lane
 
 -- the lane with the index last, where a message is there and satisfies its predicate
-abbrev pub entered_item : ℕ → Option Msg → Indices → Indices
+abbrev pub entered_item : ℕ → Option Msg → IndexLaneState → IndexLaneState
 entered_item index None lane = lane
 entered_item index (Some m) lane = entered index m.value lane
 
 -- the indices of a lane whose messages are still there are those that fit, and it counts these
-pub record IsLane (items : List (Option Msg)) (lane : Indices) : Type 0 where
+pub record IsLane (items : List (Option Msg)) (lane : IndexLaneState) : Type 0 where
   pub low : list_all (λ index. nat_lt index (length items)) lane.indices ≡ true
   pub whole : filter (is_here items) lane.indices ≡ fitting_indices 0 lane.pred items
   pub counted : lane.count ≡ length (fitting_indices 0 lane.pred items)
 
 -- each of the lanes
-abbrev pub AreLanes : List (Option Msg) → List Indices → Type 0
+abbrev pub AreLanes : List (Option Msg) → List IndexLaneState → Type 0
 AreLanes items [] = Unit {0}
 AreLanes items (lane ∷ lanes) = IsLane items lane × AreLanes items lanes
 
 -- a lane of the predicate stands at the number
-abbrev pub HasLane : List Indices → ℕ → Pred → Type 0
-HasLane lanes number pred = (lane : Indices) × (slice_get lanes number ≡ Some lane) × (lane.pred ≡ pred)
+abbrev pub HasLane : List IndexLaneState → ℕ → Pred → Type 0
+HasLane lanes number pred = (lane : IndexLaneState) × (slice_get lanes number ≡ Some lane) × (lane.pred ≡ pred)
 
 -- a lane whose first indices, so many, are these stands at the number
-abbrev pub HasPrefix : List Indices → ℕ → List ℕ → ℕ → Type 0
-HasPrefix lanes number prefix most = (lane : Indices) × (slice_get lanes number ≡ Some lane) × (take most lane.indices ≡ prefix)
+abbrev pub HasPrefix : List IndexLaneState → ℕ → List ℕ → ℕ → Type 0
+HasPrefix lanes number prefix most = (lane : IndexLaneState) × (slice_get lanes number ≡ Some lane) × (take most lane.indices ≡ prefix)
 
 -- the name of the message of the index, while it is there
 abbrev pub name_at : List (Option Msg) → ℕ → Option MsgId

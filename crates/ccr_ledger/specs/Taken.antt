@@ -3,7 +3,7 @@ use Rattle.std.specs.Prelude.{◌≡◌, ◌⊎◌, ℕ, zero, suc, List, [], �
 use Rattle.ccr_base.specs.declared.names.MsgId.{MsgId}
 use Rattle.ccr_base.specs.declared.messages.Msg.{Msg}
 use Rattle.ccr_base.specs.declared.patterns.Pred.{Pred}
-use Rattle.ccr_base.specs.Choice.{holds}
+use Rattle.ccr_base.specs.Selection.{holds}
 use Rattle.ccr_base.specs.Names.{same_message}
 
 -- the messages without the oldest that satisfies the predicate

@@ -5,21 +5,21 @@ ghost use Rattle.std.specs.List.{slice_get};
 ghost use Rattle.std.specs.Option.{option_map};
 ghost use Rattle.ccr_base.specs.declared.names.TaskId.{TaskId};
 ghost use Rattle.ccr_ledger.specs.Rows.{row};
-ghost use Rattle.ccr_model.specs.Choice.{names_of};
+ghost use Rattle.ccr_model.specs.Selection.{names_of};
 ghost use Rattle.ccr_ledger.specs.declared.cards.Card.{Card};
 ghost use Rattle.ccr_ledger.specs.Books.{card_at, number};
-ghost use Rattle.ccr_ledger.specs.Asked.{may_admit_card, are_choice, budget_lasts, can_choose, choice_at, cuts, drops, may_admit_task, group_lives, has_fired, has_more, is_busy, is_ready, is_ready_stage, lives, queue_has_room, queued_first, room, runs, unfinished, waits_first};
+ghost use Rattle.ccr_ledger.specs.Asked.{may_admit_card, are_selected, budget_lasts, can_choose, selection_at, cuts, drops, may_admit_task, group_lives, has_fired, has_more, is_busy, is_ready, is_ready_stage, lives, queue_has_room, queued_first, room, runs, unfinished, waits_first};
 
-use crate::choices::{count, has_enough, names_of_choice, names_of_site};
 use crate::counts::{flag, number};
-use crate::named_choices::{are_choice_of, are_oldest};
+use crate::named_selections::{are_oldest, are_selected_by};
+use crate::selections::{count, has_enough, names_of_selection, names_of_site};
 use crate::tasks::first_suspended;
 use crate::{Card, Ledger, Rows, Runner, TaskStage};
 use ccr_base::{
     ActorNo, BranchNo, Group, MsgId, OutOfMemory, Policy, PortNo, QueueNo, Spot, TaskId,
+    is_teardown,
 };
 use ccr_model::Event;
-use ccr_model::placements::is_teardown;
 use ccr_wiring::Wiring;
 use std::alloc::Global;
 
@@ -197,14 +197,18 @@ impl Ledger {
         }
     }
 
-    /// The names of the choice that one thread makes at the spot, if there is one.
-    pub fn choice(&mut self, wiring: &Wiring, spot: Spot) -> Result<Option<Vec<MsgId>>, OutOfMemory>
-        ensures names { IfOk result (λ names. option_map (λ found. found.items) names ≡ option_map names_of (choice_at wiring.now self.old spot)) }
+    /// The names of the selection that one thread makes at the spot, if there is one.
+    pub fn selection(
+        &mut self,
+        wiring: &Wiring,
+        spot: Spot,
+    ) -> Result<Option<Vec<MsgId>>, OutOfMemory>
+        ensures names { IfOk result (λ names. option_map (λ found. found.items) names ≡ option_map names_of (selection_at wiring.now self.old spot)) }
         ensures kept { self.new ≡ self.old }
     {
         match spot {
             Spot::Branch(branch) => match wiring.placement(branch) {
-                Some(placement) => names_of_choice(
+                Some(placement) => names_of_selection(
                     self.alloc,
                     &mut self.ports,
                     &placement.branch.pattern,
@@ -218,20 +222,20 @@ impl Ledger {
         }
     }
 
-    /// Whether the names are a choice at the spot. Which split of a gather is free.
-    pub fn are_choice(
+    /// Whether the names are a selection at the spot. Which split of a gather is free.
+    pub fn are_selected(
         &mut self,
         wiring: &Wiring,
         spot: Spot,
         names: &[MsgId],
     ) -> Result<bool, OutOfMemory>
-        ensures are { IfOk result (λ are. are ≡ are_choice wiring.now self.old spot names.now) }
+        ensures are { IfOk result (λ are. are ≡ are_selected wiring.now self.old spot names.now) }
         ensures kept { self.new ≡ self.old }
     {
         match spot {
             Spot::Branch(branch) => match wiring.placement(branch) {
                 Some(placement) => {
-                    are_choice_of(
+                    are_selected_by(
                         self.alloc,
                         &mut self.ports,
                         &placement.branch.pattern,

@@ -5,7 +5,7 @@ ghost use Rattle.ccr_wiring.specs.Wirings.{site_port};
 ghost use Rattle.ccr_model.specs.Views.{load_seen, placement_seen};
 ghost use Rattle.ccr_ledger.specs.Taking.{AreLeftOf, take_pattern, take_site};
 ghost use Rattle.ccr_ledger.specs.Refused.{IsFiringRefused, IsTakenFrom};
-ghost use Rattle.ccr_ledger.specs.Firing.{after_choice, after_cut, after_cuts, after_fire, after_new, after_next, after_taking, after_wait, branch_card, first_card, first_stage, next_card, site_card};
+ghost use Rattle.ccr_ledger.specs.Firing.{after_flags, after_cut, after_cuts, after_fire, after_new, after_next, after_taking, after_wait, branch_card, first_card, first_stage, next_card, site_card};
 
 use crate::counts::{add_one, raise, take_one};
 use crate::ledger::arrive;
@@ -13,10 +13,9 @@ use crate::loads::{load_left, with_messages};
 use crate::ports::{take_pattern, take_site};
 use crate::tasks::{first_suspended, move_to, resume};
 use crate::{Card, HeldMessages, KeptPlay, KeptValues, Ledger, Rows, TaskStage};
-use ccr_base::{BranchNo, MsgId, OutOfMemory, Spot, TaskId};
+use ccr_base::{BranchNo, MsgId, OutOfMemory, Spot, TaskId, is_concurrent, is_teardown};
 use ccr_model::data::{TaskLoad, no_load, play_at_spot};
-use ccr_model::placements::{PlacementOf, is_concurrent, is_interleave, is_teardown};
-use ccr_wiring::Wiring;
+use ccr_wiring::{PlacementOf, Wiring, is_interleave};
 use std::alloc::Global;
 
 /// Where the task of a firing at the branch stands first.
@@ -173,8 +172,8 @@ impl Ledger {
     }
 
     /// The branch and its domain have fired.
-    fn choose(&mut self, branch: BranchNo, placement: PlacementOf<'_>)
-        ensures { self.new ≡ after_choice branch (placement_seen placement.entry) self.old }
+    fn raise_flags(&mut self, branch: BranchNo, placement: PlacementOf<'_>)
+        ensures { self.new ≡ after_flags branch (placement_seen placement.entry) self.old }
     {
         raise(&mut self.spent, branch as usize);
         raise(&mut self.chosen, placement.domain);
@@ -227,7 +226,7 @@ impl Ledger {
             self.alloc, wiring, ports, task, branch, placement, messages, number,
         )?;
         self.enter(task, card, placement)?;
-        self.choose(branch, placement);
+        self.raise_flags(branch, placement);
         Ok(())
     }
 

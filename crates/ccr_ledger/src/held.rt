@@ -3,7 +3,7 @@
 ghost use Rattle.std.specs.Prelude.{◌≡◌, ◌<◌, ◌≤◌, ℕ, [], ◌∷◌, ◌++◌, IfOk, OnOk, OnErr, length, map, take, drop, nat_le};
 ghost use Rattle.std.specs.List.{slice_get};
 ghost use Rattle.ccr_base.specs.declared.messages.Msg.{Msg};
-ghost use Rattle.ccr_base.specs.Choice.{fitting};
+ghost use Rattle.ccr_base.specs.Selection.{fitting};
 ghost use Rattle.ccr_ledger.specs.Lanes.{AreLanes, HasPrefix, HasLane, IsLane, entered, entered_item, fitting_indices, is_here, lost, name_at, names_at};
 ghost use Rattle.ccr_ledger.specs.Taken.{IsLeftOf, same_front, shared, without_first, without_some};
 

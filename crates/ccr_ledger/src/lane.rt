@@ -20,9 +20,9 @@ pub(crate) struct IndexLane {
 }
 
 impl Model for IndexLane {
-    ghost use Rattle.ccr_ledger.specs.Lanes.{Indices};
+    ghost use Rattle.ccr_ledger.specs.Lanes.{IndexLaneState};
 
-    ghost Value = { Indices };
+    ghost Value = { IndexLaneState };
 
     ghost view = { λ lane. record { pred = lane.pred; indices = lane.indices.items; count = lane.count } };
 }

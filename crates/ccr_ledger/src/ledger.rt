@@ -11,13 +11,11 @@ ghost use Rattle.ccr_ledger.specs.Events.{after_admit, after_discard, after_drop
 
 use crate::counts::{add_one, take_one};
 use crate::ports::{empty_ports, post_to};
-use crate::tasks::{
-    SITES_EACH, admit_root, count_post, end_root, move_to, stop, suspend, uncount_post,
-};
+use crate::tasks::{admit_root, count_post, end_root, move_to, stop, suspend, uncount_post};
 use crate::{Card, HeldMessages, Rows, Runner, TaskStage};
 use ccr_base::{ActorNo, Msg, MsgId, OutOfMemory, QueueNo, Spot, TaskId};
 use ccr_model::{EndHow, Event};
-use ccr_wiring::{ArbiterPart, Wiring};
+use ccr_wiring::{ArbiterPart, MAX_ACTIONS, Wiring};
 use indexmap::IndexMap;
 use std::alloc::Global;
 use std::marker::Model;
@@ -37,7 +35,7 @@ pub struct Ledger {
     pub(crate) queued: Rows<TaskId>,
     /// The tasks of each domain that wait for their admission.
     pub(crate) waiting: Rows<TaskId>,
-    /// The suspended tasks of each site, `SITES_EACH` rows for each branch.
+    /// The suspended tasks of each await site, of which a branch has at most one for each of its `MAX_ACTIONS` actions.
     pub(crate) suspended: Rows<TaskId>,
     /// By their starts.
     pub(crate) running: Vec<Runner>,
@@ -203,7 +201,7 @@ impl Ledger {
         let queues = parts.queues.as_slice().len();
         let domains = parts.arbiters.as_slice().len();
         let branches = count_branches(parts.arbiters.as_slice())?;
-        let Some(sites) = branches.checked_mul(SITES_EACH as usize) else {
+        let Some(sites) = branches.checked_mul(MAX_ACTIONS) else {
             return Err(OutOfMemory);
         };
         let (spent, chosen, torn) = flags(alloc, branches, domains)?;

@@ -3,7 +3,6 @@
 
 mod asked;
 mod cards;
-mod choices;
 mod counts;
 mod fires;
 mod held;
@@ -13,9 +12,10 @@ mod kept_values;
 mod lane;
 mod ledger;
 mod loads;
-mod named_choices;
+mod named_selections;
 mod ports;
 mod rows;
+mod selections;
 mod tasks;
 
 pub use cards::{Card, Runner, TaskStage};

@@ -8,10 +8,8 @@ ghost use Rattle.ccr_ledger.specs.Events.{admit_root, not_admitted, stopped};
 
 use crate::{Card, Rows, Runner, TaskStage};
 use ccr_base::{BranchNo, OutOfMemory, TaskId};
+use ccr_wiring::MAX_ACTIONS;
 use indexmap::IndexMap;
-
-/// The await sites of a branch, at most: it has as many actions.
-pub(crate) const SITES_EACH: u32 = 16;
 
 /// The task comes to this stage.
 pub(crate) fn move_to(tasks: &mut IndexMap<TaskId, Card>, task: TaskId, stage: TaskStage)
@@ -82,11 +80,11 @@ pub(crate) fn first_suspended(
 ) -> Option<TaskId>
     ensures { result ≡ slice_get (suspended_at suspended.now branch site) 0 }
 {
-    if site >= SITES_EACH {
+    if site as usize >= MAX_ACTIONS {
         return None;
     }
     suspended
-        .first(branch as usize * SITES_EACH as usize + site as usize)
+        .first(branch as usize * MAX_ACTIONS + site as usize)
         .copied()
 }
 
@@ -94,8 +92,8 @@ pub(crate) fn first_suspended(
 pub(crate) fn resume(suspended: &mut Rows<TaskId>, branch: BranchNo, site: u32)
     ensures { suspended.new ≡ with_suspended suspended.old branch site (drop 1 (suspended_at suspended.old branch site)) }
 {
-    if site < SITES_EACH {
-        suspended.leave(branch as usize * SITES_EACH as usize + site as usize);
+    if (site as usize) < MAX_ACTIONS {
+        suspended.leave(branch as usize * MAX_ACTIONS + site as usize);
     }
 }
 
@@ -109,8 +107,8 @@ pub(crate) fn suspend(
     ensures ok { OnOk result (suspended.new ≡ with_suspended suspended.old branch site (suspended_at suspended.old branch site ++ task ∷ [])) }
     ensures err { OnErr result (suspended.new ≡ suspended.old) }
 {
-    if site < SITES_EACH {
-        suspended.enter(branch as usize * SITES_EACH as usize + site as usize, task)?;
+    if (site as usize) < MAX_ACTIONS {
+        suspended.enter(branch as usize * MAX_ACTIONS + site as usize, task)?;
     }
     Ok(())
 }

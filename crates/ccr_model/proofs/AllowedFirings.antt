@@ -8,13 +8,14 @@ use Rattle.ccr_base.specs.declared.names.Spot.TheVariants.{Branch, Site}
 use Rattle.ccr_base.specs.Names.{same_task, same_lists, has_task}
 use Rattle.ccr_wiring.specs.declared.parts.Parts.{Parts}
 use Rattle.ccr_wiring.specs.Wirings.{Placement, placement}
+use Rattle.ccr_wiring.specs.Wirings as wirings
 use Rattle.ccr_model.specs.declared.history.Event.{Event}
 use Rattle.ccr_model.specs.declared.history.Event.TheVariants.{Post, Fire, Admit, Put, Start, End}
 use Rattle.ccr_model.specs.Firings.{Firing, firing_of, firings, fired, firing_named, cut, ever_admitted}
 use Rattle.ccr_model.specs.Sites.{before}
 use Rattle.ccr_model.specs.Tasks.{is_interleave, is_branch_where, fired_by, waiting}
 use Rattle.ccr_model.specs.Live.{is_live, is_live_in, has_room}
-use Rattle.ccr_model.specs.Choice.{is_choice}
+use Rattle.ccr_model.specs.Selection.{is_selection}
 use Rattle.ccr_model.specs.Rules.{is_new, cuts_at, needs_no_admission}
 use Rattle.ccr_model.specs.Legal.{IsAllowed}
 use Rattle.ccr_model.proofs.PostNames.{refused_not}
@@ -49,7 +50,7 @@ pub FiresSo-allowed : (w : Parts) (h : List Event) (t : TaskId) (s : Spot) (ms :
 FiresSo-allowed w h t s ms cs allowed =
     let a = refused_not (is_new h t) _ _ allowed in
     let b = refused_not (is_live w h s) _ _ a.1 in
-    let c = refused_not (is_choice w h s ms) _ _ b.1 in
+    let c = refused_not (is_selection w h s ms) _ _ b.1 in
     let d = refused_not (has_room w h s) _ _ c.1 in
     let e = refused_not (same_lists same_task cs (cuts_at w h s)) _ None d.1 in
     record {
@@ -128,19 +129,19 @@ fired_by_has w test h t f is passes = found_named (firings h) t f (λ g. is_bran
 pub record BranchFacts (w : Parts) (test : Placement → Bool) (s : Spot) : Type 0 where
   pub number : ℕ
   pub is_branch : s ≡ Branch number
-  pub place : Placement
-  pub is_place : placement w number ≡ Some place
-  pub passes : test place ≡ true
+  pub placement : Placement
+  pub is_placement : wirings.placement w number ≡ Some placement
+  pub passes : test placement ≡ true
 
 pub BranchFacts-where : (w : Parts) (test : Placement → Bool) (s : Spot) → is_branch_where w test s ≡ true → BranchFacts w test s
 BranchFacts-where w test (Branch b) is =
     let found = some_of test (placement w b) is in
-    record { number = b; is_branch = refl; place = found.0; is_place = found.1; passes = found.2 }
+    record { number = b; is_branch = refl; placement = found.0; is_placement = found.1; passes = found.2 }
 BranchFacts-where w test (Site b k) is = absurd (cc)
 
 -- it is live where the spot is
-pub live_at : (w : Parts) (h : List Event) (test : Placement → Bool) (s : Spot) → (facts : BranchFacts w test s) → is_live w h s ≡ true → is_live_in w h facts.number facts.place.domain facts.place.branch.group ≡ true
-live_at w h test s facts live = rw (facts.is_branch, facts.is_place) at live
+pub live_at : (w : Parts) (h : List Event) (test : Placement → Bool) (s : Spot) → (facts : BranchFacts w test s) → is_live w h s ≡ true → is_live_in w h facts.number facts.placement.domain facts.placement.branch.group ≡ true
+live_at w h test s facts live = rw (facts.is_branch, facts.is_placement) at live
 
 -- a waiting task is one that fired there, neither admitted nor cut
 pub waits_parts : (w : Parts) (h : List Event) (i : ℕ) (t : TaskId) → has_task (waiting w h i) t ≡ true → (has_task (fired_by w (is_placement_in i) h) t ≡ true) × (has_task (ever_admitted h) t ≡ false) × (has_task (cut h) t ≡ false)
@@ -169,6 +170,6 @@ WaitingFacts-waiting w h i t one is =
 pub waits_outside : (w : Parts) (h : List Event) (i : ℕ) (t : TaskId) → (waits : WaitingFacts w h i t) → needs_no_admission w waits.firing.spot || has_task (ever_admitted h) t ≡ false
 waits_outside w h i t waits =
     let branch = BranchFacts-where w (is_placement_in i) waits.firing.spot waits.is_branch in
-    let parts = both (is_interleave branch.place.kind) (branch.place.domain == i) branch.passes in
-    let needs : needs_no_admission w waits.firing.spot ≡ false = rw (branch.is_branch, branch.is_place, parts.0) refl in
+    let parts = both (is_interleave branch.placement.kind) (branch.placement.domain == i) branch.passes in
+    let needs : needs_no_admission w waits.firing.spot ≡ false = rw (branch.is_branch, branch.is_placement, parts.0) refl in
     rw (needs, waits.not_ever_admitted) refl

@@ -30,7 +30,7 @@ use Rattle.ccr_model.specs.Firings.{Firing, firings, firing_of, firing_named, fi
 use Rattle.ccr_model.specs.TaskData.{placement_of, play_of}
 use Rattle.ccr_model.specs.Tasks.{is_interleave, is_branch_where, waiting, queued, is_for_queue, running, running_by, started_as, has_post_left, count_unfinished}
 use Rattle.ccr_model.specs.Live.{is_live, has_room}
-use Rattle.ccr_model.specs.Choice.{is_choice, is_choice_of, engine_choice, engine_choice_of, engine_gather, are_first, are_split, are_oldest, oldest, names_of}
+use Rattle.ccr_model.specs.Selection.{is_selection, is_selection_of, engine_selection, engine_selection_of, engine_gather, are_first, are_split, are_oldest, oldest, names_of}
 use Rattle.ccr_model.specs.Rules.{refused, is_post, is_new, may_put, drop_at, cuts_at, has_budget, ends_so, is_shed, may_admit, may_start}
 use Rattle.ccr_model.specs.Legal.{IsAllowed, IsLegal}
 use Rattle.ccr_model.specs.Order.{post_from, script_post, fire_at, fire_from, next_attempt, put_first, run_task, run_with, task_post, how_of, admit_first, admit_from, start_from, first}
@@ -68,7 +68,7 @@ below_next : (c k : ℕ) (ts : List TaskId) → next_attempt c ts ≤ k → list
 below_next c k [] le = refl
 below_next c k (t ∷ ts) le = grind (arith, nat_tests, below_next c k ts)
 
-first-self : (xs : List Msg) (n : ℕ) → are_first xs (names_of (take n xs)) ≡ true
+pub first-self : (xs : List Msg) (n : ℕ) → are_first xs (names_of (take n xs)) ≡ true
 first-self [] zero = refl
 first-self [] (suc n) = refl
 first-self (x ∷ xs) zero = refl
@@ -81,7 +81,7 @@ are_first-is_split [] b (n ∷ names) is = is
 are_first-is_split (m ∷ a) b [] is = refl
 are_first-is_split (m ∷ a) b (n ∷ names) is = rw is refl
 
-split_both : (a b : List Msg) (n k : ℕ) → are_split a b (names_of (take n a ++ take k b)) ≡ true
+pub split_both : (a b : List Msg) (n k : ℕ) → are_split a b (names_of (take n a ++ take k b)) ≡ true
 split_both a b zero k = are_first-is_split a b (names_of (take k b)) (first-self b k)
 split_both [] b (suc n) k = are_first-is_split [] b (names_of (take k b)) (first-self b k)
 split_both (x ∷ a) b (suc n) k = or_right (are_first b (names_of (take (suc n) (x ∷ a) ++ take k b))) _ (rw (same_message-self x.id) (split_both a b n k))
@@ -92,9 +92,9 @@ takes-length a b n k = rw length-names_of (omega (arith, length-append (take n a
 gather_is : (total : ℕ) (a b : List Msg) (n k : ℕ) → min n (length a) + min k (length b) ≡ total → (length (names_of (take n a ++ take k b)) == total) && are_split a b (names_of (take n a ++ take k b)) ≡ true
 gather_is total a b n k e = rw (takes-length a b n k, e, eq-self total, split_both a b n k) refl
 
--- the engine's gather is a choice
-gather_choice : (total p q : ℕ) (a b ms : List Msg) → engine_gather total p q a b ≡ Some ms → (length (names_of ms) == total) && are_split a b (names_of ms) ≡ true
-gather_choice total p q a b ms is = of_tests (nat_lt (length a + length b) total) (nat_lt p q) refl is
+-- the engine's gather is a selection
+gather_selection : (total p q : ℕ) (a b ms : List Msg) → engine_gather total p q a b ≡ Some ms → (length (names_of ms) == total) && are_split a b (names_of ms) ≡ true
+gather_selection total p q a b ms is = of_tests (nat_lt (length a + length b) total) (nat_lt p q) refl is
   where
     of_tests : (x y : Bool) → nat_lt (length a + length b) total ≡ x → (if x then None else if y then Some (take total a ++ take (total - length a) b) else Some (take (total - length b) a ++ take total b)) ≡ Some ms → (length (names_of ms) == total) && are_split a b (names_of ms) ≡ true
     of_tests true y few e = absurd (cc)
@@ -107,34 +107,34 @@ gather_choice total p q a b ms is = of_tests (nat_lt (length a + length b) total
         let same : ms ≡ take (total - length b) a ++ take total b = cc in
         rw same (gather_is total a b (total - length b) total (omega arith))
 
-choice_allowed_of : (f : ℕ → List Msg) (p : Pattern) (ms : List Msg) → engine_choice_of f p ≡ Some ms → is_choice_of f p (names_of ms) ≡ true
-choice_allowed_of f (Slots slots) ms is = rw is (same_list-self same_message same_message-self (names_of ms))
-choice_allowed_of f (Gather total p q) ms is = gather_choice total p q (f p) (f q) ms is
+selection_allowed_of : (f : ℕ → List Msg) (p : Pattern) (ms : List Msg) → engine_selection_of f p ≡ Some ms → is_selection_of f p (names_of ms) ≡ true
+selection_allowed_of f (Slots slots) ms is = rw is (same_list-self same_message same_message-self (names_of ms))
+selection_allowed_of f (Gather total p q) ms is = gather_selection total p q (f p) (f q) ms is
 
-oldest_choice : (xs ms : List Msg) → oldest xs ≡ Some ms → are_oldest xs (names_of ms) ≡ true
-oldest_choice [] ms is = absurd (cc)
-oldest_choice (x ∷ xs) ms is = let same : ms ≡ x ∷ [] = cc in rw same (rw (same_message-self x.id) refl)
+oldest_selection : (xs ms : List Msg) → oldest xs ≡ Some ms → are_oldest xs (names_of ms) ≡ true
+oldest_selection [] ms is = absurd (cc)
+oldest_selection (x ∷ xs) ms is = let same : ms ≡ x ∷ [] = cc in rw same (rw (same_message-self x.id) refl)
 
-choice_allowed : (w : Parts) (h : List Event) (s : Spot) (ms : List Msg) → engine_choice w h s ≡ Some ms → is_choice w h s (names_of ms) ≡ true
-choice_allowed w h (Branch b) ms is = of_option (placement w b) is
+selection_allowed : (w : Parts) (h : List Event) (s : Spot) (ms : List Msg) → engine_selection w h s ≡ Some ms → is_selection w h s (names_of ms) ≡ true
+selection_allowed w h (Branch b) ms is = of_option (placement w b) is
   where
-    of_option : (o : Option Placement) → option_and_then (λ (s : Placement). engine_choice_of (held h) s.branch.pattern) o ≡ Some ms → option_map_or (λ (s : Placement). is_choice_of (held h) s.branch.pattern (names_of ms)) o false ≡ true
+    of_option : (o : Option Placement) → option_and_then (λ (s : Placement). engine_selection_of (held h) s.branch.pattern) o ≡ Some ms → option_map_or (λ (s : Placement). is_selection_of (held h) s.branch.pattern (names_of ms)) o false ≡ true
     of_option None e = absurd (cc)
-    of_option (Some s) e = choice_allowed_of (held h) s.branch.pattern ms e
-choice_allowed w h (Site b k) ms is = of_option (site_port w b k) is
+    of_option (Some s) e = selection_allowed_of (held h) s.branch.pattern ms e
+selection_allowed w h (Site b k) ms is = of_option (site_port w b k) is
   where
     of_option : (o : Option ℕ) → option_and_then (λ port. oldest (held h port)) o ≡ Some ms → option_map_or (λ port. are_oldest (held h port) (names_of ms)) o false ≡ true
     of_option None e = absurd (cc)
-    of_option (Some port) e = oldest_choice (held h port) ms e
+    of_option (Some port) e = oldest_selection (held h port) ms e
 
 fire_allowed : (w : Parts) (c : ℕ) (h : List Event) (s : Spot) → c ≤ 32 → IfSome (fire_at w c h s) (IsAllowed w h)
-fire_allowed w c h s low = of_test (is_live w h s) (has_room w h s) refl refl (engine_choice w h s) refl
+fire_allowed w c h s low = of_test (is_live w h s) (has_room w h s) refl refl (engine_selection w h s) refl
   where
-    of_test : (a b : Bool) → is_live w h s ≡ a → has_room w h s ≡ b → (o : Option (List Msg)) → engine_choice w h s ≡ o → IfSome (if a && b then option_map (λ ms. Fire (record { actor = c; attempt = next_attempt c (fired h) }) s (names_of ms) (cuts_at w h s)) o else None) (IsAllowed w h)
+    of_test : (a b : Bool) → is_live w h s ≡ a → has_room w h s ≡ b → (o : Option (List Msg)) → engine_selection w h s ≡ o → IfSome (if a && b then option_map (λ ms. Fire (record { actor = c; attempt = next_attempt c (fired h) }) s (names_of ms) (cuts_at w h s)) o else None) (IsAllowed w h)
     of_test true true live room None is = tt
     of_test true true live room (Some ms) is =
         let new : is_new h (record { actor = c; attempt = next_attempt c (fired h) }) ≡ true = grind (arith, nat_tests, below_next c (next_attempt c (fired h)) (fired h)) in
-        passed _ _ _ new (passed _ _ _ live (passed _ _ _ (choice_allowed w h s ms is) (passed _ _ _ room (passed _ _ None (same_list-self same_task same_task-self (cuts_at w h s)) refl))))
+        passed _ _ _ new (passed _ _ _ live (passed _ _ _ (selection_allowed w h s ms is) (passed _ _ _ room (passed _ _ None (same_list-self same_task same_task-self (cuts_at w h s)) refl))))
     of_test true false live room o is = tt
     of_test false b live room o is = tt
 

@@ -10,12 +10,12 @@ use Rattle.ccr_base.specs.declared.patterns.Pattern.{Pattern}
 use Rattle.ccr_base.specs.declared.patterns.Pattern.TheVariants.{Slots, Gather}
 use Rattle.ccr_base.specs.declared.names.Spot.{Spot}
 use Rattle.ccr_base.specs.declared.names.Spot.TheVariants.{Branch, Site}
-use Rattle.ccr_base.specs.Choice.{choice, is_choosable}
+use Rattle.ccr_base.specs.Selection.{selection, is_choosable}
 use Rattle.ccr_wiring.specs.declared.parts.Parts.{Parts}
 use Rattle.ccr_wiring.specs.Wirings.{Placement, placement, site_port}
 use Rattle.ccr_model.specs.declared.history.Event.{Event}
 use Rattle.ccr_model.specs.Posts.{held}
-use Rattle.ccr_model.specs.Choice.{joined, choice_of_slots, engine_gather, engine_choice_of, oldest, engine_choice}
+use Rattle.ccr_model.specs.Selection.{joined, selection_of_slots, engine_gather, engine_selection_of, oldest, engine_selection}
 use Rattle.ccr_model.specs.Enough.{has_enough, can_take, can_fire}
 use Rattle.ccr_model.specs.Order.{fire_at}
 
@@ -36,16 +36,16 @@ is_some-joined None b = refl
 is_some-joined (Some x) None = refl
 is_some-joined (Some x) (Some y) = refl
 
-some_choice : (slot : Slot) (ms : List Msg) → is_some (choice slot ms) ≡ is_choosable slot ms
-some_choice slot ms = of_test (is_choosable slot ms) _
+some_selection : (slot : Slot) (ms : List Msg) → is_some (selection slot ms) ≡ is_choosable slot ms
+some_selection slot ms = of_test (is_choosable slot ms) _
   where
     of_test : {X : Type 0} (b : Bool) (x : X) → is_some (if b then Some x else None) ≡ b
     of_test true x = refl
     of_test false x = refl
 
-some_choice_of_slots : (f : ℕ → List Msg) (slots : List Slot) → is_some (choice_of_slots f slots) ≡ list_all (λ (slot : Slot). is_choosable slot (f slot.port)) slots
-some_choice_of_slots f [] = refl
-some_choice_of_slots f (s ∷ slots) = rw (is_some-joined, some_choice s (f s.port), some_choice_of_slots f slots) refl
+some_selection_of_slots : (f : ℕ → List Msg) (slots : List Slot) → is_some (selection_of_slots f slots) ≡ list_all (λ (slot : Slot). is_choosable slot (f slot.port)) slots
+some_selection_of_slots f [] = refl
+some_selection_of_slots f (s ∷ slots) = rw (is_some-joined, some_selection s (f s.port), some_selection_of_slots f slots) refl
 
 some_gather : (n p q : ℕ) (a b : List Msg) → is_some (engine_gather n p q a b) ≡ nat_le n (length a + length b)
 some_gather n p q a b = of_tests (nat_lt (length a + length b) n) (nat_lt p q) _ _ ∙ grind (arith, nat_tests)
@@ -55,21 +55,21 @@ some_gather n p q a b = of_tests (nat_lt (length a + length b) n) (nat_lt p q) _
     of_tests false true one other = refl
     of_tests false false one other = refl
 
-some_choice_of : (f : ℕ → List Msg) (p : Pattern) → is_some (engine_choice_of f p) ≡ has_enough f p
-some_choice_of f (Slots slots) = some_choice_of_slots f slots
-some_choice_of f (Gather total p q) = some_gather total p q (f p) (f q)
+some_selection_of : (f : ℕ → List Msg) (p : Pattern) → is_some (engine_selection_of f p) ≡ has_enough f p
+some_selection_of f (Slots slots) = some_selection_of_slots f slots
+some_selection_of f (Gather total p q) = some_gather total p q (f p) (f q)
 
 some_oldest : (ms : List Msg) → is_some (oldest ms) ≡ nat_lt 0 (length ms)
 some_oldest [] = refl
 some_oldest (m ∷ ms) = grind (arith, nat_tests)
 
-some_choice_at : (w : Parts) (h : List Event) (s : Spot) → is_some (engine_choice w h s) ≡ can_take w h s
-some_choice_at w h (Branch b) = of_placement (placement w b)
+some_selection_at : (w : Parts) (h : List Event) (s : Spot) → is_some (engine_selection w h s) ≡ can_take w h s
+some_selection_at w h (Branch b) = of_placement (placement w b)
   where
-    of_placement : (o : Option Placement) → is_some (option_and_then (λ (s : Placement). engine_choice_of (held h) s.branch.pattern) o) ≡ option_map_or (λ (s : Placement). has_enough (held h) s.branch.pattern) o false
+    of_placement : (o : Option Placement) → is_some (option_and_then (λ (s : Placement). engine_selection_of (held h) s.branch.pattern) o) ≡ option_map_or (λ (s : Placement). has_enough (held h) s.branch.pattern) o false
     of_placement None = refl
-    of_placement (Some s) = some_choice_of (held h) s.branch.pattern
-some_choice_at w h (Site b k) = of_port (site_port w b k)
+    of_placement (Some s) = some_selection_of (held h) s.branch.pattern
+some_selection_at w h (Site b k) = of_port (site_port w b k)
   where
     of_port : (o : Option ℕ) → is_some (option_and_then (λ port. oldest (held h port)) o) ≡ option_map_or (λ port. nat_lt 0 (length (held h port))) o false
     of_port None = refl
@@ -77,4 +77,4 @@ some_choice_at w h (Site b k) = of_port (site_port w b k)
 
 -- the engine has a firing at the spot exactly where the spot can fire
 pub some_fire_at : (w : Parts) (c : ℕ) (h : List Event) (s : Spot) → is_some (fire_at w c h s) ≡ can_fire w h s
-some_fire_at w c h s = rw (is_some-if, is_some-map, some_choice_at w h s) refl
+some_fire_at w c h s = rw (is_some-if, is_some-map, some_selection_at w h s) refl

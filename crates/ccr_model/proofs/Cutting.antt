@@ -35,7 +35,7 @@ use Rattle.ccr_base.proofs.Booleans.{both, refuted, no_both, same_number}
 use Rattle.ccr_model.proofs.FiredTasks.{IsFired}
 use Rattle.ccr_model.specs.Interleaves.{is_placement_in, is_teardown_in, tears_down, fired_in}
 use Rattle.ccr_model.proofs.TaskLists.{first_rest, has_oldest, of_more, among_left, not_more, of_one, not_one, not_within}
-use Rattle.ccr_model.proofs.TaskPlaces.{ArePlaced, ArePlaced-legal, PutFacts, PutFacts-allowed}
+use Rattle.ccr_model.proofs.WhoWasPut.{ArePlaced, ArePlaced-legal, PutFacts, PutFacts-allowed}
 use Rattle.ccr_model.proofs.AllowedFirings.{FiresSo-allowed, BranchFacts-where, WaitingFacts, WaitingFacts-waiting, fired_by_has, firing_named-new, waits_outside, live_at}
 
 -- an event later, a list longer
@@ -62,14 +62,14 @@ none_has (x ∷ ts) t is none = grind (arith, nat_tests, none)
 pub dead : (w : Parts) → HasGroups w → (i : ℕ) (h : List Event) (t : TaskId) (f : Firing) (s : Spot) → firing_named h t ≡ Some f → tears_down w i f.spot ≡ true → is_live w h s ≡ true → is_branch_where w (is_placement_in i) s ≡ true → ⊥
 dead w groups_fit i h t f s is tears live branch =
     let facts = BranchFacts-where w (is_placement_in i) s branch in
-    let parts = both (is_interleave facts.place.kind) (facts.place.domain == i) facts.passes in
-    let number = same_number facts.place.domain i parts.1 in
-    let live_here : is_live_in w h facts.number facts.place.domain facts.place.branch.group ≡ true = live_at w h (is_placement_in i) s facts live in
-    let none = ends_live w h facts.number facts.place.domain facts.place.kind facts.place.branch.group (groups_fit facts.number facts.place facts.is_place) parts.0 live_here in
+    let parts = both (is_interleave facts.placement.kind) (facts.placement.domain == i) facts.passes in
+    let number = same_number facts.placement.domain i parts.1 in
+    let live_here : is_live_in w h facts.number facts.placement.domain facts.placement.branch.group ≡ true = live_at w h (is_placement_in i) s facts live in
+    let none = ends_live w h facts.number facts.placement.domain facts.placement.kind facts.placement.branch.group (groups_fit facts.number facts.placement facts.is_placement) parts.0 live_here in
     let tore = BranchFacts-where w (is_teardown_in i) f.spot tears in
-    let tore_parts = both (is_interleave tore.place.kind && (tore.place.domain == i)) (is_teardown tore.place.branch.group) tore.passes in
-    let tore_number = (both (is_interleave tore.place.kind) (tore.place.domain == i) tore_parts.0).1 in
-    let passes : is_branch_where w (λ z. (z.domain == i) && is_teardown z.branch.group) f.spot ≡ true = rw (tore.is_branch, tore.is_place, tore_number, tore_parts.1) refl in
+    let tore_parts = both (is_interleave tore.placement.kind && (tore.placement.domain == i)) (is_teardown tore.placement.branch.group) tore.passes in
+    let tore_number = (both (is_interleave tore.placement.kind) (tore.placement.domain == i) tore_parts.0).1 in
+    let passes : is_branch_where w (λ z. (z.domain == i) && is_teardown z.branch.group) f.spot ≡ true = rw (tore.is_branch, tore.is_placement, tore_number, tore_parts.1) refl in
     none_has (fired_by w (λ z. (z.domain == i) && is_teardown z.branch.group) h) t (fired_by_has w (λ z. (z.domain == i) && is_teardown z.branch.group) h t f is passes) (subst (λ n. is_none_of (fired_by w (λ z. (z.domain == n) && is_teardown z.branch.group) h) ≡ true) number none)
 
 -- who fired at the teardown
@@ -98,9 +98,9 @@ no_branch_fires w groups_fit i before after t s ms cs legal tears =
 
 -- what an allowed admission says
 pub record AdmitFacts (w : Parts) (h : List Event) (t : TaskId) : Type 0 where
-  pub place : Placement
-  pub is_place : placement_of w h t ≡ Some place
-  pub waits : has_task (waiting w h place.domain) t ≡ true
+  pub placement : Placement
+  pub is_placement : placement_of w h t ≡ Some placement
+  pub waits : has_task (waiting w h placement.domain) t ≡ true
   pub may_be_admitted : may_admit w h t ≡ true
 
 pub AdmitFacts-allowed : (w : Parts) (h : List Event) (t : TaskId) → IsAllowed w h (Admit t) → AdmitFacts w h t
@@ -109,7 +109,7 @@ AdmitFacts-allowed w h t allowed =
     let b = refused_not (may_admit w h t) _ None a.1 in
     let found = some_of (λ (s : Placement). is_first (waiting w h s.domain) t) (placement_of w h t) a.0 in
     let head = first_rest (waiting w h found.0.domain) t found.2 in
-    record { place = found.0; is_place = found.1; waits = has_oldest (waiting w h found.0.domain) head.0 t head.1; may_be_admitted = b.0 }
+    record { placement = found.0; is_placement = found.1; waits = has_oldest (waiting w h found.0.domain) head.0 t head.1; may_be_admitted = b.0 }
 
 -- a cut task is neither admitted nor put; a branch's task of an Interleave was admitted before it was put
 pub record CutFacts (w : Parts) (h : List Event) : Type 0 where
@@ -169,7 +169,7 @@ entered_more false ts us t is = among_left ts us t is
 CutFacts-admit : (w : Parts) (h : List Event) (t : TaskId) → OneName h → ArePlaced h → IsAllowed w h (Admit t) → CutFacts w h → CutFacts w (h ++ Admit t ∷ [])
 CutFacts-admit w h t one placed allowed known =
     let facts = AdmitFacts-allowed w h t allowed in
-    let waits = WaitingFacts-waiting w h facts.place.domain t one facts.waits in
+    let waits = WaitingFacts-waiting w h facts.placement.domain t one facts.waits in
     record {
       not_ever_admitted = λ u among. rw (ever_admitted-push h (Admit t)) (let there = subst (λ ts. has_task ts u ≡ true) (same_cut h (Admit t) refl) among in not_more (ever_admitted h) (t ∷ []) u (known.not_ever_admitted u there) (not_one t u (cut h) waits.not_cut there));
       not_put = λ u among. rw (put-push h (Admit t), append-nil (put h)) (known.not_put u (subst (λ ts. has_task ts u ≡ true) (same_cut h (Admit t) refl) among));

@@ -17,7 +17,7 @@ use Rattle.ccr_model.proofs.LegalParts.{along_legal}
 use Rattle.ccr_model.proofs.TasksLeft.{of_without, distinct-push}
 use Rattle.ccr_base.proofs.Booleans.{refuted, no_both}
 use Rattle.ccr_model.proofs.TaskLists.{of_more, among_left, among_right, not_more, of_one, not_one, not_within}
-use Rattle.ccr_model.proofs.TaskPlaces.{ArePlaced-legal, new_drop}
+use Rattle.ccr_model.proofs.WhoWasPut.{ArePlaced-legal, new_drop}
 
 -- a running task started and didn't end
 pub record RunningFacts (h : List Event) (t : TaskId) : Type 0 where

@@ -12,7 +12,7 @@ use Rattle.ccr_wiring.specs.Wirings.{Placement, placement, branch_of, site_port,
 use Rattle.ccr_model.specs.Firings.{Firing, firings, firing_of}
 use Rattle.ccr_model.specs.Live.{is_live}
 use Rattle.ccr_model.specs.Posts.{held}
-use Rattle.ccr_model.specs.Choice.{is_choice, are_oldest}
+use Rattle.ccr_model.specs.Selection.{is_selection, are_oldest}
 use Rattle.ccr_model.specs.Legal.{IsAllowed, IsLegal}
 use Rattle.ccr_model.proofs.TakenOnce.{FireFacts-allowed}
 use Rattle.ccr_model.proofs.OneMoreEvent.{firings-push}
@@ -20,7 +20,7 @@ use Rattle.ccr_model.proofs.LegalParts.{along_legal}
 use Rattle.ccr_base.proofs.Options.{some_of}
 use Rattle.ccr_model.proofs.Members.{Among, Among-either}
 
-spot_with_placement : (w : Parts) (h : List Event) (s : Spot) (ms : List MsgId) → is_live w h s ≡ true → is_choice w h s ms ≡ true → (r : Placement) × (placement w (branch_of s) ≡ Some r)
+spot_with_placement : (w : Parts) (h : List Event) (s : Spot) (ms : List MsgId) → is_live w h s ≡ true → is_selection w h s ms ≡ true → (r : Placement) × (placement w (branch_of s) ≡ Some r)
 spot_with_placement w h (Branch b) ms live is = let found = some_of _ (placement w b) live in (found.0, found.1)
 spot_with_placement w h (Site b k) ms live is = let found = some_of (λ port. are_oldest (held h port) ms) (site_port w b k) is in of_option (placement w b) refl found.0 found.1
   where
@@ -31,7 +31,7 @@ spot_with_placement w h (Site b k) ms live is = let found = some_of (λ port. ar
 new_placement : (w : Parts) (h : List Event) (e : Event) (f : Firing) → IsAllowed w h e → Among f (firing_of e) → (r : Placement) × (placement w (branch_of f.spot) ≡ Some r)
 new_placement w h (Fire t s ms cs) f allowed (inl same) =
     let facts = FireFacts-allowed w h t s ms cs allowed in
-    let found = spot_with_placement w h s ms facts.live facts.choice_made in
+    let found = spot_with_placement w h s ms facts.live facts.selection_made in
     (found.0, ap (λ (g : Firing). placement w (branch_of g.spot)) same ∙ found.1)
 new_placement w h (Fire t s ms cs) f allowed (inr more) = absurd more
 new_placement w h (Post m) f allowed among = absurd among

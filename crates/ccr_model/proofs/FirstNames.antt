@@ -3,7 +3,7 @@ use Rattle.std.proofs.Common.{◌≡◌, ℕ, zero, suc, true, List, [], ◌∷�
 use Rattle.ccr_base.specs.declared.names.MsgId.{MsgId}
 use Rattle.ccr_base.specs.declared.messages.Msg.{Msg}
 use Rattle.ccr_base.specs.Names.{same_message, same_lists}
-use Rattle.ccr_model.specs.Choice.{names_of}
+use Rattle.ccr_model.specs.Selection.{names_of}
 use Rattle.ccr_base.proofs.Booleans.{both}
 use Rattle.ccr_model.proofs.SameNames.{same_message-is}
 

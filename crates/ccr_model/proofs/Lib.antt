@@ -1,5 +1,5 @@
 pub mod WorkedParts
-mod WorkedRuns
+pub mod WorkedRuns
 mod WorkedTasks
 mod WorkedDomains
 mod WrongEvents
@@ -11,7 +11,6 @@ pub mod OneMoreEvent
 pub mod HeldSteps
 pub mod PostNames
 pub mod LegalParts
-pub mod ListParts
 pub mod TakenOnce
 pub mod TaskSteps
 pub mod Stable
@@ -28,7 +27,7 @@ pub mod FirstNames
 pub mod CanFire
 pub mod TaskLists
 pub mod AllowedDrops
-pub mod TaskPlaces
+pub mod WhoWasPut
 pub mod AllowedFirings
 pub mod FiringPlacements
 pub mod Ending
@@ -36,6 +35,7 @@ pub mod Cutting
 pub mod Suspending
 pub mod Roots
 pub mod MessageNames
+pub mod TakenWerePosted
 pub mod Queued
 pub mod TasksOnce
 pub mod NamesLeft

@@ -1,6 +1,6 @@
 -- Who is a member of a list.
 use Rattle.std.proofs.Common.{◌≡◌, ℕ, zero, suc, Bool, true, false, ◌⊎◌, inl, inr, List, [], ◌∷◌, ◌++◌, map, filter, take, Some, refl, sym, ap, ◌∙◌, arith}
-use Rattle.std.specs.Prelude.{if◌then◌else◌}
+use Rattle.std.specs.Prelude.{if◌then◌else◌, find}
 use Rattle.std.specs.List.{Contains, slice_get, list_all}
 
 -- x is a member
@@ -27,11 +27,11 @@ Among-at [] i x is = absurd (cc)
 Among-at (y ∷ xs) zero x is = inl (cc)
 Among-at (y ∷ xs) (suc i) x is = inr (Among-at xs i x is)
 
--- the place of a member
-pub place_of : {X : Type 0} (xs : List X) (x : X) → Among x xs → (i : ℕ) × (slice_get xs i ≡ Some x)
-place_of [] x among = absurd among
-place_of (y ∷ xs) x (inl same) = (0, ap Some (sym same))
-place_of (y ∷ xs) x (inr more) = let rest = place_of xs x more in (suc rest.0, rest.1)
+-- the index of a member
+pub index_of : {X : Type 0} (xs : List X) (x : X) → Among x xs → (i : ℕ) × (slice_get xs i ≡ Some x)
+index_of [] x among = absurd among
+index_of (y ∷ xs) x (inl same) = (0, ap Some (sym same))
+index_of (y ∷ xs) x (inr more) = let rest = index_of xs x more in (suc rest.0, rest.1)
 
 -- who is among the first is among all
 pub Among-take : {X : Type 0} (k : ℕ) (xs : List X) (x : X) → Among x (take k xs) → Among x xs
@@ -52,6 +52,15 @@ Among-filter p (y ∷ xs) x is = by_test (p y) refl is (Among-filter p xs x)
 
 pub Among-kept : {X : Type 0} (p : X → Bool) (xs : List X) (x : X) → Among x (filter p xs) → Among x xs
 Among-kept p xs x is = (Among-filter p xs x is).0
+
+-- who is found is a member
+pub found_among : {X : Type 0} (p : X → Bool) (xs : List X) (x : X) → find p xs ≡ Some x → Among x xs
+found_among p [] x is = absurd (cc)
+found_among p (y ∷ xs) x is = of_test (p y) is (found_among p xs x)
+  where
+    of_test : (b : Bool) → (if b then Some y else find p xs) ≡ Some x → (find p xs ≡ Some x → Among x xs) → Among x (y ∷ xs)
+    of_test true at rest = let same : x ≡ y = cc in inl same
+    of_test false at rest = inr (rest at)
 
 -- what is made of a member is among what is made of all
 pub Among-map : {X Y : Type 0} (f : X → Y) (xs : List X) (x : X) → Among x xs → Among (f x) (map f xs)

@@ -5,7 +5,7 @@ use Rattle.std.proofs.lemmas.Grind.{common_steps}
 use Rattle.ccr_base.specs.declared.names.MsgId.{MsgId}
 use Rattle.ccr_base.specs.declared.messages.Msg.{Msg}
 use Rattle.ccr_base.specs.declared.patterns.Pred.TheVariants.{Any}
-use Rattle.ccr_base.specs.Choice.{fitting}
+use Rattle.ccr_base.specs.Selection.{fitting}
 use Rattle.ccr_base.specs.Names.{same_message, has_message}
 use Rattle.ccr_wiring.specs.declared.parts.Parts.{Parts}
 use Rattle.ccr_model.specs.declared.history.Event.{Event}
@@ -15,6 +15,10 @@ use Rattle.ccr_model.proofs.Members.{Among}
 use Rattle.ccr_model.proofs.PostNames.{times, posted_once}
 use Rattle.ccr_model.proofs.SameNames.{same_message-self}
 use Rattle.ccr_model.proofs.TakenOnce.{times_named, times-filter}
+
+-- the messages without those of these names
+abbrev pub left_by : List MsgId → List Msg → List Msg
+left_by names ms = filter (λ (m : Msg). not (has_message names m.id)) ms
 
 -- every message satisfies `any`
 pub any_fits : (ms : List Msg) → fitting Any ms ≡ ms

@@ -29,4 +29,4 @@ placement-within w branch s at = of_placement (slice_get (placements_from 0 w.ar
     of_placement (Some r) there is =
         let placed = placement_of_arbiter 0 w.arbiters branch r there in
         let number : domain_of w.domains r.domain ≡ s.domain = cc in
-        omega (arith, domain-low w.domains r.domain, placed.number, some-below w.arbiters placed.place placed.arbiter placed.at, number)
+        omega (arith, domain-low w.domains r.domain, placed.number, some-below w.arbiters placed.index placed.arbiter placed.at, number)

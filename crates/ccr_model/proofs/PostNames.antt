@@ -10,7 +10,7 @@ use Rattle.ccr_wiring.specs.declared.parts.Parts.{Parts}
 use Rattle.ccr_model.specs.declared.history.Event.{Event}
 use Rattle.ccr_model.specs.declared.history.Event.TheVariants.{Post, Fire, Admit, Put, Start, End}
 use Rattle.ccr_base.specs.Names.{same_message}
-use Rattle.ccr_model.specs.Posts.{posts, is_script_of, is_message_of}
+use Rattle.ccr_model.specs.Posts.{posts, is_script_of, is_message_of, is_task_message}
 use Rattle.ccr_model.specs.declared.rule.Rule.{Rule}
 use Rattle.ccr_model.specs.Rules.{refusal_of_post, refused}
 use Rattle.ccr_model.specs.Legal.{IsAllowed, IsLegal, IsLegalAfter}
@@ -28,6 +28,10 @@ along w P keeps start h legal = along_after w P keeps [] h start legal
 -- how often the name stands among the messages
 abbrev pub times : MsgId → List Msg → ℕ
 times name ms = length (filter (λ (m : Msg). same_message m.id name) ms)
+
+-- how many messages are of tasks
+abbrev pub task_messages : List Msg → ℕ
+task_messages ms = length (filter (λ (m : Msg). is_task_message m.id) ms)
 
 -- how many messages the sender of the name sent
 abbrev pub sent_by : MsgId → List Msg → ℕ
@@ -47,7 +51,7 @@ pub refused_not : (b : Bool) (rule : Rule) (o : Option Rule) → refused b rule 
 refused_not true rule o is = (refl, is)
 refused_not false rule o is = absurd (cc)
 
--- an allowed post has the place that comes next
+-- an allowed post has the index that comes next
 place_next : (w : Parts) (h : List Event) (m : Msg) (name : MsgId) → refusal_of_post w h m name ≡ None → place_of name ≡ sent_by name (posts h)
 place_next w h m (Script a k) is = grind (arith, nat_tests)
 place_next w h m (Task t k) is = grind (arith, nat_tests)

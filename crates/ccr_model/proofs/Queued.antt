@@ -13,7 +13,7 @@ use Rattle.ccr_model.proofs.FiredTasks.{fired_has}
 use Rattle.ccr_model.proofs.AllowedFirings.{firings-other}
 use Rattle.ccr_model.proofs.OneMoreEvent.{put-push, started-push, dropped-push}
 use Rattle.ccr_model.proofs.TaskLists.{not_within}
-use Rattle.ccr_model.proofs.TaskPlaces.{ArePlaced-legal}
+use Rattle.ccr_model.proofs.WhoWasPut.{ArePlaced-legal}
 use Rattle.ccr_model.proofs.TasksLeft.{distinct-filter}
 
 pub queued_once : (w : Parts) (h : List Event) (q : ℕ) → IsLegal w h → are_distinct_tasks (queued w h q) ≡ true

@@ -25,7 +25,7 @@ use Rattle.ccr_model.specs.Firings.{Firing, firings, fired, firing_named, spot_o
 use Rattle.ccr_model.specs.TaskData.{placement_of}
 use Rattle.ccr_model.specs.Tasks.{waiting, queued, running}
 use Rattle.ccr_model.specs.Live.{is_live, has_room}
-use Rattle.ccr_model.specs.Choice.{is_choice, is_choice_of, engine_choice, engine_choice_of, engine_gather, choice_of_slots, are_first, are_split, are_oldest, oldest, names_of}
+use Rattle.ccr_model.specs.Selection.{is_selection, is_selection_of, engine_selection, engine_selection_of, engine_gather, selection_of_slots, are_first, are_split, are_oldest, oldest, names_of}
 use Rattle.ccr_model.specs.Rules.{refusal_of_post, is_post, is_script_line, is_new, is_first, is_oldest_waiting, may_admit, may_put, drop_at, is_oldest_queued, is_play_post}
 use Rattle.ccr_model.specs.Legal.{IsAllowed, IsQuiet}
 use Rattle.ccr_model.specs.Order.{first, post_from, script_post, fire_at, fire_from, admit_first, admit_from, put_first, run_task, start_from}
@@ -97,36 +97,36 @@ split-length (m ∷ a) b (n ∷ names) is = front_or_not (are_first b (n ∷ nam
     front_or_not true front is rest = omega (arith, first-length b (n ∷ names) front)
     front_or_not false front is rest = grind (arith, rest (both (same_message m.id n) (are_split a b names) is).1)
 
--- where some choice may be made, the engine has one
-abbrev HasChoice : Option (List Msg) → Type 0
-HasChoice o = (ms : List Msg) × (o ≡ Some ms)
+-- where some selection may be made, the engine has one
+abbrev HasSelection : Option (List Msg) → Type 0
+HasSelection o = (ms : List Msg) × (o ≡ Some ms)
 
-gather_some : (n p q : ℕ) (a b : List Msg) → n ≤ length a + length b → HasChoice (engine_gather n p q a b)
+gather_some : (n p q : ℕ) (a b : List Msg) → n ≤ length a + length b → HasSelection (engine_gather n p q a b)
 gather_some n p q a b enough = if_some (nat_lt (length a + length b) n) (nat_lt p q) (grind (arith, nat_tests))
   where
-    if_some : (x y : Bool) → x ≡ false → HasChoice (if x then None else if y then Some (take n a ++ take (n - length a) b) else Some (take (n - length b) a ++ take n b))
+    if_some : (x y : Bool) → x ≡ false → HasSelection (if x then None else if y then Some (take n a ++ take (n - length a) b) else Some (take (n - length b) a ++ take n b))
     if_some true y is = absurd (cc)
     if_some false true is = (take n a ++ take (n - length a) b, refl)
     if_some false false is = (take (n - length b) a ++ take n b, refl)
 
-choice_of_some : (f : ℕ → List Msg) (p : Pattern) (names : List MsgId) → is_choice_of f p names ≡ true → HasChoice (engine_choice_of f p)
-choice_of_some f (Slots slots) names is = let found = some_of (λ messages. same_lists same_message (names_of messages) names) (choice_of_slots f slots) is in (found.0, found.1)
-choice_of_some f (Gather total p q) names is =
+selection_of_some : (f : ℕ → List Msg) (p : Pattern) (names : List MsgId) → is_selection_of f p names ≡ true → HasSelection (engine_selection_of f p)
+selection_of_some f (Slots slots) names is = let found = some_of (λ messages. same_lists same_message (names_of messages) names) (selection_of_slots f slots) is in (found.0, found.1)
+selection_of_some f (Gather total p q) names is =
     let parts = both (length names == total) (are_split (f p) (f q) names) is in
     let many : length names ≡ total = grind (arith, nat_tests, parts.0) in
     gather_some total p q (f p) (f q) (omega (arith, split-length (f p) (f q) names parts.1, many))
 
-oldest_some : (ms : List Msg) (names : List MsgId) → are_oldest ms names ≡ true → HasChoice (oldest ms)
+oldest_some : (ms : List Msg) (names : List MsgId) → are_oldest ms names ≡ true → HasSelection (oldest ms)
 oldest_some [] [] is = absurd (cc)
 oldest_some [] (n ∷ names) is = let parts = both (length (n ∷ names) == 1) (are_first [] (n ∷ names)) is in absurd (cc parts.1)
 oldest_some (m ∷ ms) names is = (m ∷ [], refl)
 
--- the spot of a choice is one of the wiring, and the engine has a choice there
-choice_some : (w : Parts) (h : List Event) (s : Spot) (names : List MsgId) → is_choice w h s names ≡ true → Among s (spots w) × HasChoice (engine_choice w h s)
-choice_some w h (Branch b) names is =
-    let found = some_of (λ (s : Placement). is_choice_of (held h) s.branch.pattern names) (placement w b) is in
-    (branch_among w 0 b b (placements w) found.0 (omega arith) found.1, rw found.1 (choice_of_some (held h) found.0.branch.pattern names found.2))
-choice_some w h (Site b k) names is =
+-- the spot of a selection is one of the wiring, and the engine has a selection there
+selection_some : (w : Parts) (h : List Event) (s : Spot) (names : List MsgId) → is_selection w h s names ≡ true → Among s (spots w) × HasSelection (engine_selection w h s)
+selection_some w h (Branch b) names is =
+    let found = some_of (λ (s : Placement). is_selection_of (held h) s.branch.pattern names) (placement w b) is in
+    (branch_among w 0 b b (placements w) found.0 (omega arith) found.1, rw found.1 (selection_of_some (held h) found.0.branch.pattern names found.2))
+selection_some w h (Site b k) names is =
     let found = some_of (λ port. are_oldest (held h port) names) (site_port w b k) is in
     let there = some_site (placement w b) refl found.0 found.1 in
     (site_among w 0 b b k found.0 (placements w) there.0 (omega arith) there.1 there.2, rw found.1 (oldest_some (held h found.0) names found.2))
@@ -139,9 +139,9 @@ no_fire : (w : Parts) (c : ℕ) (h : List Event) (t : TaskId) (s : Spot) (names 
 no_fire w c h t s names cs none allowed =
     let a = refused_not (is_new h t) _ _ allowed in
     let b = refused_not (is_live w h s) _ _ a.1 in
-    let d = refused_not (is_choice w h s names) _ _ b.1 in
+    let d = refused_not (is_selection w h s names) _ _ b.1 in
     let e = refused_not (has_room w h s) _ _ d.1 in
-    let found = choice_some w h s names d.0 in
+    let found = selection_some w h s names d.0 in
     let nothing = fire_none w c h (spots w) s none found.0 in
     grind (arith, nothing, b.0, e.0, found.1.1)
 

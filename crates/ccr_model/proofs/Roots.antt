@@ -30,7 +30,7 @@ use Rattle.ccr_model.proofs.ExclusiveRootsAreAlone.{lasts_fired}
 use Rattle.ccr_model.specs.AtWork.{is_queued, is_suspended, is_at_work}
 use Rattle.ccr_model.specs.Interleaves.{is_placement_in, is_of_interleave}
 use Rattle.ccr_model.proofs.TaskLists.{to_filter, among_left, not_within, any_named}
-use Rattle.ccr_model.proofs.TaskPlaces.{ArePlaced-legal, QueuedFacts-queued, placement_by}
+use Rattle.ccr_model.proofs.WhoWasPut.{ArePlaced-legal, QueuedFacts-queued, placement_by}
 use Rattle.ccr_model.proofs.AllowedFirings.{FiresSo-allowed, not_new, firing_named-new, before-new, firings-other}
 use Rattle.ccr_model.proofs.Cutting.{CutFacts-legal}
 use Rattle.ccr_model.proofs.Ending.{AreEnded-legal, RunningFacts-running}
@@ -201,10 +201,10 @@ AreEverAdmitted w h = (t : TaskId) (f : Firing) (b k : ℕ) (z : Placement) → 
 
 -- and so has one that was put
 put_ever_admitted : (w : Parts) (h : List Event) → IsLegal w h → AreEverAdmitted w h → (t : TaskId) (f : Firing) (s : Spot) (z : Placement) → has_task (put h) t ≡ true → firing_named h t ≡ Some f → f.spot ≡ s → placement w (branch_of s) ≡ Some z → is_interleave z.kind ≡ true → has_task (ever_admitted h) (root_of h t) ≡ true
-put_ever_admitted w h legal known t f (Site b k) z there is at place kind = known t f b k z is at place kind
-put_ever_admitted w h legal known t f (Branch b) z there is at place kind =
+put_ever_admitted w h legal known t f (Site b k) z there is at placed kind = known t f b k z is at placed kind
+put_ever_admitted w h legal known t f (Branch b) z there is at placed kind =
     let entered = (CutFacts-legal w h legal).entered t f there is in
-    let needs : needs_no_admission w f.spot ≡ false = rw (at, place, kind) refl in
+    let needs : needs_no_admission w f.spot ≡ false = rw (at, placed, kind) refl in
     let ever_admitted_so : has_task (ever_admitted h) t ≡ true = rw needs at entered in
     rw (root_own h t f b is at) ever_admitted_so
 
@@ -212,10 +212,10 @@ ever_admitted_stays : (h : List Event) (e : Event) (t : TaskId) → has_task (ev
 ever_admitted_stays h e t is = rw (ever_admitted-push h e) (among_left (ever_admitted h) (admitted_by e) t is)
 
 ever_admitted_old : (w : Parts) (h : List Event) (e : Event) → AreEverAdmitted w h → (t : TaskId) (f : Firing) (b k : ℕ) (z : Placement) → firing_named h t ≡ Some f → f.spot ≡ Site b k → placement w b ≡ Some z → is_interleave z.kind ≡ true → has_task (ever_admitted (h ++ e ∷ [])) (root_of (h ++ e ∷ []) t) ≡ true
-ever_admitted_old w h e known t f b k z is at place kind = rw (root_stays h (e ∷ []) t (f, is)) (ever_admitted_stays h e (root_of h t) (known t f b k z is at place kind))
+ever_admitted_old w h e known t f b k z is at placed kind = rw (root_stays h (e ∷ []) t (f, is)) (ever_admitted_stays h e (root_of h t) (known t f b k z is at placed kind))
 
 AreEverAdmitted-fire : (w : Parts) (h : List Event) (x : TaskId) (s : Spot) (ms : List MsgId) (cs : List TaskId) → IsLegal w h → IsAllowed w h (Fire x s ms cs) → AreEverAdmitted w h → AreEverAdmitted w (h ++ Fire x s ms cs ∷ [])
-AreEverAdmitted-fire w h x s ms cs legal allowed known t f b k z is at place kind = of_case (of_firing h x s ms cs t f (FiresSo-allowed w h x s ms cs allowed).new_name is)
+AreEverAdmitted-fire w h x s ms cs legal allowed known t f b k z is at placed kind = of_case (of_firing h x s ms cs t f (FiresSo-allowed w h x s ms cs allowed).new_name is)
   where
     this : (r : Spot) → s ≡ r → r ≡ Site b k → has_task (ever_admitted (h ++ Fire x s ms cs ∷ [])) (root_of (h ++ Fire x s ms cs ∷ []) x) ≡ true
     this r e site =
@@ -224,16 +224,16 @@ AreEverAdmitted-fire w h x s ms cs legal allowed known t f b k z is at place kin
         let facts = ResumeFacts-allowed w h x b k ms cs allowed_here in
         let ends_so = AreEnded-legal w h legal in
         let was_put = (ArePlaced-legal w h legal).lists.put_started facts.resumes (ends_so.started_ended facts.resumes (ends_so.ended_yielded facts.resumes facts.yielded_so)) in
-        let place_was : placement w (branch_of facts.firing.spot) ≡ Some z = rw facts.same_branch place in
-        let entered = put_ever_admitted w h legal known facts.resumes facts.firing facts.firing.spot z was_put facts.is_firing refl place_was kind in
+        let placed_was : placement w (branch_of facts.firing.spot) ≡ Some z = rw facts.same_branch placed in
+        let entered = put_ever_admitted w h legal known facts.resumes facts.firing facts.firing.spot z was_put facts.is_firing refl placed_was kind in
         subst (λ p. has_task (ever_admitted (h ++ Fire x p ms cs ∷ [])) (root_of (h ++ Fire x p ms cs ∷ []) x) ≡ true) (sym here) (rw (root_resumed w h x b k ms cs allowed_here facts) (ever_admitted_stays h (Fire x (Site b k) ms cs) (root_of h facts.resumes) entered))
 
     of_case : (firing_named h t ≡ Some f) ⊎ ((t ≡ x) × (f ≡ record { task = x; spot = s; messages = ms; cuts = cs })) → has_task (ever_admitted (h ++ Fire x s ms cs ∷ [])) (root_of (h ++ Fire x s ms cs ∷ []) t) ≡ true
-    of_case (inl old) = ever_admitted_old w h (Fire x s ms cs) known t f b k z old at place kind
+    of_case (inl old) = ever_admitted_old w h (Fire x s ms cs) known t f b k z old at placed kind
     of_case (inr new) = rw new.0 (this s refl (sym (ap (λ (g : Firing). g.spot) new.1) ∙ at))
 
 AreEverAdmitted-other : (w : Parts) (h : List Event) (e : Event) → firing_of e ≡ [] → AreEverAdmitted w h → AreEverAdmitted w (h ++ e ∷ [])
-AreEverAdmitted-other w h e none known t f b k z is at place kind = ever_admitted_old w h e known t f b k z (other_firing h e t f none is) at place kind
+AreEverAdmitted-other w h e none known t f b k z is at placed kind = ever_admitted_old w h e known t f b k z (other_firing h e t f none is) at placed kind
 
 AreEverAdmitted_kept : (w : Parts) (h : List Event) (e : Event) → IsLegal w h → IsAllowed w h e → AreEverAdmitted w h → AreEverAdmitted w (h ++ e ∷ [])
 AreEverAdmitted_kept w h (Fire x s ms cs) legal allowed known = AreEverAdmitted-fire w h x s ms cs legal allowed known
@@ -244,7 +244,7 @@ AreEverAdmitted_kept w h (Start x a) legal allowed known = AreEverAdmitted-other
 AreEverAdmitted_kept w h (End x how) legal allowed known = AreEverAdmitted-other w h (End x how) refl known
 
 AreEverAdmitted-legal : (w : Parts) (h : List Event) → IsLegal w h → AreEverAdmitted w h
-AreEverAdmitted-legal w h legal = along_legal w (AreEverAdmitted w) (AreEverAdmitted_kept w) (λ t f b k z is at place kind. absurd (cc)) h legal
+AreEverAdmitted-legal w h legal = along_legal w (AreEverAdmitted w) (AreEverAdmitted_kept w) (λ t f b k z is at placed kind. absurd (cc)) h legal
 
 -- a segment has its root's placement
 pub placement_of_root : (w : Parts) (h : List Event) → IsLegal w h → (t : TaskId) → IsFired h t → placement_of w h (root_of h t) ≡ placement_of w h t
@@ -274,8 +274,8 @@ at_work_admitted w h legal i t within work =
     let fired = (ArePlaced-legal w h legal).all_fired t work.put_so in
     let found = some_of (is_placement_in i) (placement_of w h t) within in
     let parts = both (is_interleave found.0.kind) (found.0.domain == i) found.2 in
-    let place : placement w (branch_of fired.0.spot) ≡ Some found.0 = sym (placement_by w h t fired.0 fired.1) ∙ found.1 in
-    let entered = put_ever_admitted w h legal (AreEverAdmitted-legal w h legal) t fired.0 fired.0.spot found.0 work.put_so fired.1 refl place parts.0 in
+    let placed : placement w (branch_of fired.0.spot) ≡ Some found.0 = sym (placement_by w h t fired.0 fired.1) ∙ found.1 in
+    let entered = put_ever_admitted w h legal (AreEverAdmitted-legal w h legal) t fired.0 fired.0.spot found.0 work.put_so fired.1 refl placed parts.0 in
     let there : is_of_domain w h i (root_of h t) ≡ true = ap (λ o. option_map_or (λ (s : Placement). s.domain == i) o false) (placement_of_root w h legal t fired ∙ found.1) ∙ parts.1 in
     admitted_whole w h i (root_of h t) entered there (not_over w h legal t work)
 

@@ -1,11 +1,13 @@
--- When two names are those of one task or of one message; each value is itself.
+-- When two names are those of one task, of one message or of one spot; each value is itself.
 use Rattle.std.proofs.Common.{◌≡◌, ℕ, List, true, arith}
 use Rattle.std.specs.Cmp.Lexicographic.{nat_list_eq_equiv}
 use Rattle.std.proofs.lemmas.Bool.Decides.{nat_tests}
 use Rattle.ccr_base.specs.declared.names.TaskId.{TaskId}
 use Rattle.ccr_base.specs.declared.names.MsgId.{MsgId}
 use Rattle.ccr_base.specs.declared.names.MsgId.TheVariants.{Script, Task}
-use Rattle.ccr_base.specs.Names.{same_task, same_message}
+use Rattle.ccr_base.specs.declared.names.Spot.{Spot}
+use Rattle.ccr_base.specs.declared.names.Spot.TheVariants.{Branch, Site}
+use Rattle.ccr_base.specs.Names.{same_task, same_message, same_spot}
 use Rattle.ccr_base.specs.Values.{same_value}
 
 pub same_task-is : (s t : TaskId) → same_task s t ≡ true → s ≡ t
@@ -29,6 +31,12 @@ same_message-is (Task s k) (Task t l) is = grind (arith, nat_tests)
 
 pub same_message-sym : (m n : MsgId) → same_message m n ≡ same_message n m
 same_message-sym m n = grind (arith, nat_tests)
+
+pub same_spot-is : (s t : Spot) → same_spot s t ≡ true → s ≡ t
+same_spot-is (Branch b) (Branch c) is = grind (arith, nat_tests)
+same_spot-is (Branch b) (Site c l) is = absurd (cc)
+same_spot-is (Site b k) (Branch c) is = absurd (cc)
+same_spot-is (Site b k) (Site c l) is = grind (arith, nat_tests)
 
 pub same_value-self : (v : List ℕ) → same_value v v ≡ true
 same_value-self v = nat_list_eq_equiv.refl v

@@ -30,7 +30,7 @@ use Rattle.ccr_base.proofs.Booleans.{not_true, both, or_left, or_right, and_not,
 use Rattle.ccr_model.proofs.FiredTasks.{IsFired, none_fired}
 use Rattle.ccr_model.specs.AtWork.{is_suspended}
 use Rattle.ccr_model.proofs.TaskLists.{filter_append, has_oldest, of_more, of_one, has_task-drop, distinct-drop, drop_one_more, drop_some}
-use Rattle.ccr_model.proofs.TaskPlaces.{ArePlaced-legal}
+use Rattle.ccr_model.proofs.WhoWasPut.{ArePlaced-legal}
 use Rattle.ccr_model.proofs.AllowedFirings.{FiresSo-allowed, firings-other}
 use Rattle.ccr_model.proofs.Ending.{AreEnded-legal, RunningFacts-allowed}
 

@@ -18,8 +18,8 @@ use Rattle.ccr_model.specs.declared.history.Event.TheVariants.{Post, Fire, Admit
 use Rattle.ccr_base.specs.Names.{same_message, same_lists, has_message}
 use Rattle.ccr_model.specs.Posts.{posts, held, taken, taken_by}
 use Rattle.ccr_wiring.specs.Wirings.{Placement, placement, site_port}
-use Rattle.ccr_base.specs.Choice.{holds, choice}
-use Rattle.ccr_model.specs.Choice.{names_of, joined, choice_of_slots, are_first, are_split, is_choice_of, are_oldest, is_choice}
+use Rattle.ccr_base.specs.Selection.{holds, selection}
+use Rattle.ccr_model.specs.Selection.{names_of, joined, selection_of_slots, are_first, are_split, is_selection_of, are_oldest, is_selection}
 use Rattle.ccr_model.specs.Live.{is_live, has_room}
 use Rattle.ccr_model.specs.Rules.{is_new}
 use Rattle.ccr_model.specs.Legal.{IsAllowed, IsLegal}
@@ -64,22 +64,22 @@ joined_some (Some front) (Some back) xs is = (front, back, refl, refl, grind (ar
 joined_some None b xs is = absurd (cc)
 joined_some (Some front) None xs is = absurd (cc)
 
-pub choice_some : (slot : Slot) (ms xs : List Msg) → choice slot ms ≡ Some xs → xs ≡ take slot.most (filter (λ m. holds slot.pred m.value) ms)
-choice_some slot ms xs is = grind arith
+pub selection_some : (slot : Slot) (ms xs : List Msg) → selection slot ms ≡ Some xs → xs ≡ take slot.most (filter (λ m. holds slot.pred m.value) ms)
+selection_some slot ms xs is = grind arith
 
-times-choice : (name : MsgId) (slot : Slot) (ms xs : List Msg) → choice slot ms ≡ Some xs → times name xs ≤ times name ms
-times-choice name slot ms xs is = rw (choice_some slot ms xs is) (omega (arith, times-take name slot.most (filter (λ m. holds slot.pred m.value) ms), times-filter name (λ m. holds slot.pred m.value) ms))
+times-selection : (name : MsgId) (slot : Slot) (ms xs : List Msg) → selection slot ms ≡ Some xs → times name xs ≤ times name ms
+times-selection name slot ms xs is = rw (selection_some slot ms xs is) (omega (arith, times-take name slot.most (filter (λ m. holds slot.pred m.value) ms), times-filter name (λ m. holds slot.pred m.value) ms))
 
 abbrev at : (Msg → Bool) → List Msg → ℕ → List Msg
 at t ms port = filter t (filter (λ m. m.port == port) ms)
 
-times-slots : (name : MsgId) (t : Msg → Bool) (ms : List Msg) (slots : List Slot) (xs : List Msg) → are_apart (slot_ports slots) ≡ true → choice_of_slots (at t ms) slots ≡ Some xs → times name xs ≤ times_at name (slot_ports slots) (filter t ms)
+times-slots : (name : MsgId) (t : Msg → Bool) (ms : List Msg) (slots : List Slot) (xs : List Msg) → are_apart (slot_ports slots) ≡ true → selection_of_slots (at t ms) slots ≡ Some xs → times name xs ≤ times_at name (slot_ports slots) (filter t ms)
 times-slots name t ms [] xs apart is = grind arith
 times-slots name t ms (slot ∷ slots) xs apart is =
-    let parts = joined_some (choice slot (at t ms slot.port)) (choice_of_slots (at t ms) slots) xs is in
+    let parts = joined_some (selection slot (at t ms slot.port)) (selection_of_slots (at t ms) slots) xs is in
     let apart_both = both (not (has_number (slot_ports slots) slot.port)) (are_apart (slot_ports slots)) apart in
     let other : has_number (slot_ports slots) slot.port ≡ false = grind (arith, apart_both.0) in
-    let here = times-choice name slot (at t ms slot.port) parts.0 parts.2 in
+    let here = times-selection name slot (at t ms slot.port) parts.0 parts.2 in
     let there = times-slots name t ms slots parts.1 apart_both.1 parts.3 in
     subst (λ ys. times name ys ≤ times_at name (slot.port ∷ slot_ports slots) (filter t ms)) parts.4 (omega (arith, times-append name parts.0 parts.1, here, there, times_at-apart name t slot.port (slot_ports slots) other ms))
 
@@ -122,14 +122,14 @@ times-one : (name : MsgId) (t : Msg → Bool) (p : ℕ) (ms : List Msg) → time
 times-one name t p [] = grind arith
 times-one name t p (m ∷ ms) = grind (arith, times-one name t p ms)
 
--- the names of a choice stand among the messages that no firing took
-named-choice_of : (name : MsgId) (t : Msg → Bool) (ms : List Msg) (p : Pattern) (names : List MsgId) → names_ports_once p ≡ true → is_choice_of (at t ms) p names ≡ true → times_named name names ≤ times name (filter t ms)
-named-choice_of name t ms (Slots slots) names apart is = some_choice (choice_of_slots (at t ms) slots) refl is
+-- the names of a selection stand among the messages that no firing took
+named-selection_of : (name : MsgId) (t : Msg → Bool) (ms : List Msg) (p : Pattern) (names : List MsgId) → names_ports_once p ≡ true → is_selection_of (at t ms) p names ≡ true → times_named name names ≤ times name (filter t ms)
+named-selection_of name t ms (Slots slots) names apart is = some_selection (selection_of_slots (at t ms) slots) refl is
   where
-    some_choice : (o : Option (List Msg)) → choice_of_slots (at t ms) slots ≡ o → option_map_or (λ messages. same_lists same_message (names_of messages) names) o false ≡ true → times_named name names ≤ times name (filter t ms)
-    some_choice None e is = absurd (cc)
-    some_choice (Some xs) e is = omega (arith, named-same name xs names is, times-slots name t ms slots xs apart e, times_at-all name (slot_ports slots) (filter t ms))
-named-choice_of name t ms (Gather total first second) names apart is =
+    some_selection : (o : Option (List Msg)) → selection_of_slots (at t ms) slots ≡ o → option_map_or (λ messages. same_lists same_message (names_of messages) names) o false ≡ true → times_named name names ≤ times name (filter t ms)
+    some_selection None e is = absurd (cc)
+    some_selection (Some xs) e is = omega (arith, named-same name xs names is, times-slots name t ms slots xs apart e, times_at-all name (slot_ports slots) (filter t ms))
+named-selection_of name t ms (Gather total first second) names apart is =
     let parts = both (length names == total) (are_split (at t ms first) (at t ms second) names) is in
     omega (arith, named-split name (at t ms first) (at t ms second) names parts.1, times-two name t first second apart ms)
 
@@ -137,13 +137,13 @@ named-choice_of name t ms (Gather total first second) names apart is =
 abbrev pub untaken : List Event → List Msg
 untaken h = filter (λ (m : Msg). not (has_message (taken h) m.id)) (posts h)
 
-pub named-choice : (w : Parts) (h : List Event) (s : Spot) (name : MsgId) (names : List MsgId) → HasPortsApart w → is_choice w h s names ≡ true → times_named name names ≤ times name (untaken h)
-named-choice w h (Branch b) name names apart is = some_placement (placement w b) refl is
+pub named-selection : (w : Parts) (h : List Event) (s : Spot) (name : MsgId) (names : List MsgId) → HasPortsApart w → is_selection w h s names ≡ true → times_named name names ≤ times name (untaken h)
+named-selection w h (Branch b) name names apart is = some_placement (placement w b) refl is
   where
-    some_placement : (o : Option Placement) → placement w b ≡ o → option_map_or (λ (s : Placement). is_choice_of (held h) s.branch.pattern names) o false ≡ true → times_named name names ≤ times name (untaken h)
+    some_placement : (o : Option Placement) → placement w b ≡ o → option_map_or (λ (s : Placement). is_selection_of (held h) s.branch.pattern names) o false ≡ true → times_named name names ≤ times name (untaken h)
     some_placement None e is = absurd (cc)
-    some_placement (Some s) e is = named-choice_of name (λ m. not (has_message (taken h) m.id)) (posts h) s.branch.pattern names (apart b s e) is
-named-choice w h (Site b k) name names apart is = some_port (site_port w b k) is
+    some_placement (Some s) e is = named-selection_of name (λ m. not (has_message (taken h) m.id)) (posts h) s.branch.pattern names (apart b s e) is
+named-selection w h (Site b k) name names apart is = some_port (site_port w b k) is
   where
     some_port : (o : Option ℕ) → option_map_or (λ port. are_oldest (held h port) names) o false ≡ true → times_named name names ≤ times name (untaken h)
     some_port None is = absurd (cc)
@@ -173,16 +173,16 @@ named-append name (x ∷ xs) ys = grind (arith, named-append name xs ys)
 pub record FireFacts (w : Parts) (h : List Event) (t : TaskId) (s : Spot) (ms : List MsgId) (cs : List TaskId) : Type 0 where
   pub new_name : is_new h t ≡ true
   pub live : is_live w h s ≡ true
-  pub choice_made : is_choice w h s ms ≡ true
+  pub selection_made : is_selection w h s ms ≡ true
   pub room : has_room w h s ≡ true
 
 pub FireFacts-allowed : (w : Parts) (h : List Event) (t : TaskId) (s : Spot) (ms : List MsgId) (cs : List TaskId) → IsAllowed w h (Fire t s ms cs) → FireFacts w h t s ms cs
 FireFacts-allowed w h t s ms cs allowed =
     let a = refused_not (is_new h t) _ _ allowed in
     let b = refused_not (is_live w h s) _ _ a.1 in
-    let c = refused_not (is_choice w h s ms) _ _ b.1 in
+    let c = refused_not (is_selection w h s ms) _ _ b.1 in
     let d = refused_not (has_room w h s) _ _ c.1 in
-    record { new_name = a.0; live = b.0; choice_made = c.0; room = d.0 }
+    record { new_name = a.0; live = b.0; selection_made = c.0; room = d.0 }
 
 pub taken-push : (h : List Event) (e : Event) → taken (h ++ e ∷ []) ≡ taken h ++ taken_by e
 taken-push h e = grind (arith, common_steps)
@@ -193,7 +193,7 @@ IsTakenOnce h = (name : MsgId) → times_named name (taken h) ≤ 1
 
 taken_fire : (w : Parts) → HasPortsApart w → (h : List Event) (t : TaskId) (s : Spot) (ms : List MsgId) (cs : List TaskId) → ((name : MsgId) → times name (posts h) ≤ 1) → IsTakenOnce h → IsAllowed w h (Fire t s ms cs) → (name : MsgId) → times_named name (taken h ++ ms) ≤ 1
 taken_fire w apart h t s ms cs posted_one once allowed name =
-    let among = named-choice w h s name ms apart (FireFacts-allowed w h t s ms cs allowed).choice_made in
+    let among = named-selection w h s name ms apart (FireFacts-allowed w h t s ms cs allowed).selection_made in
     let all = times-filter name (λ (m : Msg). not (has_message (taken h) m.id)) (posts h) in
     new_or_not (has_message (taken h) name) refl among all
   where

@@ -16,6 +16,7 @@ use Rattle.ccr_model.specs.Tasks.{is_for_queue, queued, running}
 use Rattle.ccr_model.proofs.OneMoreEvent.{firings-push, put-push, started-push, dropped-push}
 use Rattle.ccr_model.proofs.TasksLeft.{has_task-without, without_both, lists_start}
 use Rattle.ccr_base.proofs.Booleans.{neither}
+use Rattle.ccr_base.proofs.Filters.{filter_same}
 
 -- running, one lemma an event
 pub running-start : (h : List Event) (t : TaskId) (a : ℕ) → has_task (ended h) t ≡ false → running (h ++ Start t a ∷ []) ≡ running h ++ t ∷ []
@@ -51,10 +52,6 @@ is_for_queue-start w h q t u a = rw (firings-push, append-nil) refl
 
 is_for_queue-fire : (w : Parts) (h : List Event) (q : ℕ) (t u : TaskId) (s : Spot) (ms : List MsgId) (cs : List TaskId) → same_task t u ≡ false → is_for_queue w (h ++ Fire t s ms cs ∷ []) q u ≡ is_for_queue w h q u
 is_for_queue-fire w h q t u s ms cs other = rw (firing_named-fire h t u s ms cs other) refl
-
-filter_same : {X : Type 0} (p q : X → Bool) (xs : List X) → ((x : X) → p x ≡ q x) → filter p xs ≡ filter q xs
-filter_same p q [] same = refl
-filter_same p q (x ∷ xs) same = grind (arith, same x, filter_same p q xs same)
 
 -- over plain lists: one more put
 lists_put : (f : TaskId → Bool) (ps ss ds more : List TaskId) (t : TaskId) → has_task (ss ++ (ds ++ more)) t ≡ false → filter f (without (ps ++ t ∷ []) (ss ++ (ds ++ more))) ≡ without (filter f (without ps (ss ++ ds))) more ++ (if f t then t ∷ [] else [])

@@ -1,4 +1,4 @@
--- Wrong events, each with its place and the rule that refuses it; fates and totals of the worked runs. The names say what each shows.
+-- Wrong events, each with its index and the rule that refuses it; fates and totals of the worked runs. The names say what each shows.
 use Rattle.std.proofs.Common.{◌≡◌, [], ◌∷◌, Some, None, refl}
 use Rattle.ccr_base.specs.declared.names.MsgId.TheVariants.{Script, Task}
 use Rattle.ccr_base.specs.declared.names.Spot.TheVariants.{Branch, Site}
@@ -17,7 +17,7 @@ use Rattle.ccr_model.specs.Legal.{first_refusal}
 value_not_the_posters : first_refusal one_post_wiring [] 0 (Post (message (Script 0 0) 0 8 ([])) ∷ Fire (task 1 0) (Branch 0) ((Script 0 0) ∷ []) ([]) ∷ Put (task 1 0) None ∷ Start (task 1 0) 1 ∷ End (task 1 0) ends.Done ∷ []) ≡ Some (0, rules.ScriptLine)
 value_not_the_posters = refl
 
-message_not_posted : first_refusal one_post_wiring [] 0 (Post (message (Script 0 0) 0 7 ([])) ∷ Fire (task 1 0) (Branch 0) ((Script 0 1) ∷ []) ([]) ∷ Put (task 1 0) None ∷ Start (task 1 0) 1 ∷ End (task 1 0) ends.Done ∷ []) ≡ Some (1, rules.Choice)
+message_not_posted : first_refusal one_post_wiring [] 0 (Post (message (Script 0 0) 0 7 ([])) ∷ Fire (task 1 0) (Branch 0) ((Script 0 1) ∷ []) ([]) ∷ Put (task 1 0) None ∷ Start (task 1 0) 1 ∷ End (task 1 0) ends.Done ∷ []) ≡ Some (1, rules.Selection)
 message_not_posted = refl
 
 task_of_actor_33 : first_refusal one_post_wiring [] 0 (Post (message (Script 0 0) 0 7 ([])) ∷ Fire (task 33 0) (Branch 0) ((Script 0 0) ∷ []) ([]) ∷ Put (task 1 0) None ∷ Start (task 1 0) 1 ∷ End (task 1 0) ends.Done ∷ []) ≡ Some (1, rules.NewTask)
@@ -83,13 +83,13 @@ shed_with_budget_left = refl
 done_with_a_post_left : first_refusal budget_shed_wiring [] 0 (Post (message (Script 0 0) 0 5 ([])) ∷ Fire (task 1 0) (Branch 0) ((Script 0 0) ∷ []) ([]) ∷ Put (task 1 0) None ∷ Start (task 1 0) 1 ∷ End (task 1 0) ends.Done ∷ []) ≡ Some (4, rules.Ending)
 done_with_a_post_left = refl
 
-gather_of_the_newer_first : first_refusal gather_wiring [] 0 (Post (message (Script 0 0) 0 1 ([])) ∷ Post (message (Script 0 1) 1 2 ([])) ∷ Post (message (Script 0 2) 1 3 ([])) ∷ Post (message (Script 0 3) 0 4 ([])) ∷ Fire (task 1 0) (Branch 0) ((Script 0 3) ∷ (Script 0 0) ∷ (Script 0 1) ∷ []) ([]) ∷ []) ≡ Some (4, rules.Choice)
+gather_of_the_newer_first : first_refusal gather_wiring [] 0 (Post (message (Script 0 0) 0 1 ([])) ∷ Post (message (Script 0 1) 1 2 ([])) ∷ Post (message (Script 0 2) 1 3 ([])) ∷ Post (message (Script 0 3) 0 4 ([])) ∷ Fire (task 1 0) (Branch 0) ((Script 0 3) ∷ (Script 0 0) ∷ (Script 0 1) ∷ []) ([]) ∷ []) ≡ Some (4, rules.Selection)
 gather_of_the_newer_first = refl
 
-gather_of_the_second_port_first : first_refusal gather_wiring [] 0 (Post (message (Script 0 0) 0 1 ([])) ∷ Post (message (Script 0 1) 1 2 ([])) ∷ Post (message (Script 0 2) 1 3 ([])) ∷ Post (message (Script 0 3) 0 4 ([])) ∷ Fire (task 1 0) (Branch 0) ((Script 0 1) ∷ (Script 0 2) ∷ (Script 0 0) ∷ []) ([]) ∷ []) ≡ Some (4, rules.Choice)
+gather_of_the_second_port_first : first_refusal gather_wiring [] 0 (Post (message (Script 0 0) 0 1 ([])) ∷ Post (message (Script 0 1) 1 2 ([])) ∷ Post (message (Script 0 2) 1 3 ([])) ∷ Post (message (Script 0 3) 0 4 ([])) ∷ Fire (task 1 0) (Branch 0) ((Script 0 1) ∷ (Script 0 2) ∷ (Script 0 0) ∷ []) ([]) ∷ []) ≡ Some (4, rules.Selection)
 gather_of_the_second_port_first = refl
 
-gather_of_too_few : first_refusal gather_wiring [] 0 (Post (message (Script 0 0) 0 1 ([])) ∷ Post (message (Script 0 1) 1 2 ([])) ∷ Post (message (Script 0 2) 1 3 ([])) ∷ Post (message (Script 0 3) 0 4 ([])) ∷ Fire (task 1 0) (Branch 0) ((Script 0 0) ∷ (Script 0 3) ∷ []) ([]) ∷ []) ≡ Some (4, rules.Choice)
+gather_of_too_few : first_refusal gather_wiring [] 0 (Post (message (Script 0 0) 0 1 ([])) ∷ Post (message (Script 0 1) 1 2 ([])) ∷ Post (message (Script 0 2) 1 3 ([])) ∷ Post (message (Script 0 3) 0 4 ([])) ∷ Fire (task 1 0) (Branch 0) ((Script 0 0) ∷ (Script 0 3) ∷ []) ([]) ∷ []) ≡ Some (4, rules.Selection)
 gather_of_too_few = refl
 
 teardown_cuts_one_of_two : first_refusal teardown_cuts_wiring [] 0 (Post (message (Script 0 0) 0 1 ([])) ∷ Post (message (Script 0 1) 0 2 ([])) ∷ Post (message (Script 0 2) 1 3 ([])) ∷ Fire (task 1 0) (Branch 0) ((Script 0 0) ∷ []) ([]) ∷ Fire (task 1 1) (Branch 0) ((Script 0 1) ∷ []) ([]) ∷ Fire (task 1 2) (Branch 1) ((Script 0 2) ∷ []) ((task 1 0) ∷ []) ∷ []) ≡ Some (5, rules.DueCuts)
@@ -107,7 +107,7 @@ done_at_an_await = refl
 resumed_before_its_yield : first_refusal await_wiring [] 0 (Post (message (Script 0 0) 0 1 ([])) ∷ Post (message (Script 0 1) 2 2 ([])) ∷ Post (message (Script 0 2) 1 3 ([])) ∷ Fire (task 1 0) (Branch 0) ((Script 0 0) ∷ []) ([]) ∷ Fire (task 1 1) (Branch 1) ((Script 0 1) ∷ []) ([]) ∷ Admit (task 1 0) ∷ Put (task 1 0) None ∷ Start (task 1 0) 1 ∷ Fire (task 1 2) (Site 0 0) ((Script 0 2) ∷ []) ([]) ∷ []) ≡ Some (8, rules.LiveSpot)
 resumed_before_its_yield = refl
 
-resumed_by_a_message_of_another_port : first_refusal await_wiring [] 0 (Post (message (Script 0 0) 0 1 ([])) ∷ Post (message (Script 0 1) 2 2 ([])) ∷ Post (message (Script 0 2) 1 3 ([])) ∷ Fire (task 1 0) (Branch 0) ((Script 0 0) ∷ []) ([]) ∷ Fire (task 1 1) (Branch 1) ((Script 0 1) ∷ []) ([]) ∷ Admit (task 1 0) ∷ Put (task 1 0) None ∷ Start (task 1 0) 1 ∷ End (task 1 0) ends.Yield ∷ Fire (task 1 2) (Site 0 0) ((Script 0 1) ∷ []) ([]) ∷ []) ≡ Some (9, rules.Choice)
+resumed_by_a_message_of_another_port : first_refusal await_wiring [] 0 (Post (message (Script 0 0) 0 1 ([])) ∷ Post (message (Script 0 1) 2 2 ([])) ∷ Post (message (Script 0 2) 1 3 ([])) ∷ Fire (task 1 0) (Branch 0) ((Script 0 0) ∷ []) ([]) ∷ Fire (task 1 1) (Branch 1) ((Script 0 1) ∷ []) ([]) ∷ Admit (task 1 0) ∷ Put (task 1 0) None ∷ Start (task 1 0) 1 ∷ End (task 1 0) ends.Yield ∷ Fire (task 1 2) (Site 0 0) ((Script 0 1) ∷ []) ([]) ∷ []) ≡ Some (9, rules.Selection)
 resumed_by_a_message_of_another_port = refl
 
 concurrent_beside_a_suspended_exclusive : first_refusal await_wiring [] 0 (Post (message (Script 0 0) 0 1 ([])) ∷ Post (message (Script 0 1) 2 2 ([])) ∷ Post (message (Script 0 2) 1 3 ([])) ∷ Fire (task 1 0) (Branch 0) ((Script 0 0) ∷ []) ([]) ∷ Fire (task 1 1) (Branch 1) ((Script 0 1) ∷ []) ([]) ∷ Admit (task 1 0) ∷ Put (task 1 0) None ∷ Start (task 1 0) 1 ∷ End (task 1 0) ends.Yield ∷ Admit (task 1 1) ∷ []) ≡ Some (9, rules.Admission)
@@ -131,7 +131,7 @@ start_of_no_task = refl
 end_of_no_task : first_refusal no_posts_wiring [] 0 (End (task 1 0) ends.Done ∷ []) ≡ Some (0, rules.Running)
 end_of_no_task = refl
 
-fire_of_an_empty_port : first_refusal no_posts_wiring [] 0 (Fire (task 1 0) (Branch 0) ((Script 0 0) ∷ []) ([]) ∷ []) ≡ Some (0, rules.Choice)
+fire_of_an_empty_port : first_refusal no_posts_wiring [] 0 (Fire (task 1 0) (Branch 0) ((Script 0 0) ∷ []) ([]) ∷ []) ≡ Some (0, rules.Selection)
 fire_of_an_empty_port = refl
 
 second_shed_with_budget_left : first_refusal second_task_shed_wiring [] 0 (Post (message (Script 0 0) 0 1 ([])) ∷ Post (message (Script 0 1) 0 2 ([])) ∷ Fire (task 1 0) (Branch 0) ((Script 0 0) ∷ []) ([]) ∷ Fire (task 1 1) (Branch 0) ((Script 0 1) ∷ []) ([]) ∷ Put (task 1 0) None ∷ Put (task 1 1) None ∷ Start (task 1 0) 1 ∷ Start (task 1 1) 2 ∷ End (task 1 0) ends.Shed ∷ End (task 1 1) ends.Shed ∷ []) ≡ Some (9, rules.Ending)

@@ -27,16 +27,16 @@ IsLegal wiring history = IsLegalAfter wiring [] history
 abbrev pub IsQuiet : Parts → List Event → Type 0
 IsQuiet wiring history = (event : Event) → IsAllowed wiring history event → ⊥
 
--- the place and the rule of an event that isn't allowed, or else what is said of later ones
+-- the index and the rule of an event that isn't allowed, or else what is said of later ones
 abbrev pub first_or : Option Rule → ℕ → Option (ℕ × Rule) → Option (ℕ × Rule)
 first_or answer index later = elim answer [ None ↦ later | Some rule ↦ Some (index, rule) ]
 
--- the place, from this one on, and the rule of the first event that isn't allowed
+-- the index, from this one on, and the rule of the first event that isn't allowed
 abbrev pub first_refusal : Parts → List Event → ℕ → List Event → Option (ℕ × Rule)
 first_refusal wiring past index [] = None
 first_refusal wiring past index (event ∷ events) = first_or (refusal wiring past event) index (first_refusal wiring (past ++ event ∷ []) (index + 1) events)
 
--- the place, and the number of the rule
+-- the index, and the number of the rule
 abbrev pub numbered : ℕ × Rule → ℕ × ℕ
 numbered refusal = (refusal.0, number_of refusal.1)
 

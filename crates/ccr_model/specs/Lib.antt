@@ -4,7 +4,7 @@ pub mod Sites
 pub mod TaskData
 pub mod Tasks
 pub mod Live
-pub mod Choice
+pub mod Selection
 pub mod Enough
 pub mod Rules
 pub mod Legal

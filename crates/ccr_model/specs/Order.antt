@@ -23,7 +23,7 @@ use Rattle.ccr_model.specs.Firings.{fired}
 use Rattle.ccr_model.specs.TaskData.{play_of}
 use Rattle.ccr_model.specs.Tasks.{waiting, queued, running}
 use Rattle.ccr_model.specs.Live.{is_live, has_room}
-use Rattle.ccr_model.specs.Choice.{engine_choice, names_of}
+use Rattle.ccr_model.specs.Selection.{engine_selection, names_of}
 use Rattle.ccr_model.specs.Rules.{cuts_at, may_admit, may_put, drop_at, has_budget}
 
 -- the post with this index in the poster's script
@@ -47,14 +47,14 @@ next_attempt actor (task ∷ tasks) = if task.actor == actor then max (task.atte
 abbrev pub most_attempts : ℕ
 most_attempts = 2 ^ 31
 
--- the firing at the spot, where it is live, has room and has a choice
+-- the firing at the spot, where it is live, has room and has a selection
 abbrev pub fire_at : Parts → ℕ → List Event → Spot → Option Event
 fire_at wiring closer history spot =
     if is_live wiring history spot && has_room wiring history spot
     then
     option_map
     (λ messages. Fire (record { actor = closer; attempt = next_attempt closer (fired history) }) spot (names_of messages) (cuts_at wiring history spot))
-    (engine_choice wiring history spot)
+    (engine_selection wiring history spot)
     else None
 
 -- at the first of the spots that can fire

@@ -32,7 +32,7 @@ use Rattle.ccr_model.specs.Firings.{fired, cut, ever_admitted, put, spot_of}
 use Rattle.ccr_model.specs.TaskData.{placement_of, play_of}
 use Rattle.ccr_model.specs.Tasks.{is_interleave, is_teardown, is_concurrent, waiting, queued, running, running_by, admitted, has_post_left, count_unfinished}
 use Rattle.ccr_model.specs.Live.{is_live, has_room, is_none_of}
-use Rattle.ccr_model.specs.Choice.{is_choice}
+use Rattle.ccr_model.specs.Selection.{is_selection}
 
 -- whether the message is the post, but for its name
 abbrev pub is_post : Msg → Sent → Bool
@@ -145,7 +145,7 @@ number_of rules.PlayPost = 2
 number_of rules.Budget = 3
 number_of rules.NewTask = 4
 number_of rules.LiveSpot = 5
-number_of rules.Choice = 6
+number_of rules.Selection = 6
 number_of rules.Room = 7
 number_of rules.DueCuts = 8
 number_of rules.OldestWaiting = 9
@@ -173,7 +173,7 @@ refusal wiring history (Post message) = refusal_of_post wiring history message m
 refusal wiring history (Fire task spot messages cuts) =
     refused (is_new history task) rules.NewTask
     (refused (is_live wiring history spot) rules.LiveSpot
-    (refused (is_choice wiring history spot messages) rules.Choice
+    (refused (is_selection wiring history spot messages) rules.Selection
     (refused (has_room wiring history spot) rules.Room
     (refused (same_lists same_task cuts (cuts_at wiring history spot)) rules.DueCuts None))))
 refusal wiring history (Admit task) = refused (is_oldest_waiting wiring history task) rules.OldestWaiting (refused (may_admit wiring history task) rules.Admission None)

@@ -134,6 +134,7 @@ pub fn play_at_spot(
 ) -> Result<Play, OutOfMemory>
     ensures { IfOk result (λ found. found ≡ play_at wiring.now (branch_of spot) (segment_of spot) (load_seen load.now)) }
 {
+    // `parts` says that the wiring is valid.
     let _valid = wiring.parts();
     match segment_of(spot) {
         Some(segment) => play_at(alloc, wiring, branch_of(spot), segment, load),

@@ -2,7 +2,7 @@
 
 ghost use Rattle.std.specs.Prelude.{◌≡◌, IfOk};
 ghost use Rattle.std.specs.List.{list_all};
-ghost use Rattle.ccr_base.specs.Choice.{is_choosable};
+ghost use Rattle.ccr_base.specs.Selection.{is_choosable};
 ghost use Rattle.ccr_model.specs.Posts.{held};
 ghost use Rattle.ccr_model.specs.Enough.{can_fire, can_take, has_enough};
 

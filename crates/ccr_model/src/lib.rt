@@ -2,7 +2,6 @@
 #![tactic(auto)]
 
 pub mod alike;
-pub mod choices;
 pub mod data;
 pub mod enough;
 pub mod firings;
@@ -10,11 +9,11 @@ mod ghost_history;
 mod history;
 mod laws;
 pub mod live;
-pub mod placements;
 pub mod posts;
 mod refusal;
 mod rule;
 pub mod rules;
+pub mod selections;
 mod sites;
 pub mod tasks;
 

@@ -4,13 +4,13 @@ ghost use Rattle.std.specs.Prelude.{◌≡◌, IfOk, option_map};
 ghost use Rattle.ccr_model.specs.Rules.{number_of, refusal, refusal_of_post};
 
 use crate::alike::{are_same_tasks, is_same_drop};
-use crate::choices::is_choice;
 use crate::firings::has_task;
 use crate::live::{has_room, is_live};
 use crate::rules::{
     cuts_at, drop_at, has_budget, is_new, is_oldest_queued, is_oldest_waiting, is_play_post,
     is_script_line, may_admit, may_end, may_put, may_start,
 };
+use crate::selections::is_selection;
 use crate::tasks::running;
 use crate::{EndHow, Event, History, Rule};
 use ccr_base::{ActorNo, Msg, MsgId, OutOfMemory, Spot, TaskId};
@@ -60,8 +60,8 @@ fn refusal_of_fire(
     if !is_live(alloc, wiring, events, spot)? {
         return Ok(Some(Rule::LiveSpot));
     }
-    if !is_choice(alloc, wiring, events, spot, messages)? {
-        return Ok(Some(Rule::Choice));
+    if !is_selection(alloc, wiring, events, spot, messages)? {
+        return Ok(Some(Rule::Selection));
     }
     if !has_room(alloc, wiring, events, spot)? {
         return Ok(Some(Rule::Room));

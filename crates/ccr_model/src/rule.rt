@@ -16,8 +16,8 @@ pub enum Rule {
     NewTask,
     /// The spot that fires is live.
     LiveSpot,
-    /// The messages that are taken are a choice of the spot.
-    Choice,
+    /// The messages that are taken are a selection of the spot.
+    Selection,
     /// The spot has room.
     Room,
     /// The tasks that are cut are those that are due: for a teardown branch all waiting tasks of its domain, by firing, else none.
@@ -51,7 +51,7 @@ impl Rule {
             Rule::Budget => 3,
             Rule::NewTask => 4,
             Rule::LiveSpot => 5,
-            Rule::Choice => 6,
+            Rule::Selection => 6,
             Rule::Room => 7,
             Rule::DueCuts => 8,
             Rule::OldestWaiting => 9,

@@ -7,15 +7,14 @@ ghost use Rattle.ccr_model.specs.Rules.{is_script_line, is_play_post, has_budget
 use crate::alike::is_post;
 use crate::data::play_of;
 use crate::firings::{cut, ever_admitted, fired, has_task, put, spot_of};
-use crate::placements::{is_concurrent, is_interleave, is_teardown};
 use crate::posts::{posts_of_poster, posts_of_task, posts_of_tasks};
 use crate::tasks::{
     admitted, count_unfinished, has_post_left, placement_of, queued, running, running_by, waiting,
 };
 use crate::{EndHow, Event};
-use ccr_base::{ActorNo, Msg, OutOfMemory, Policy, Spot, TaskId};
+use ccr_base::{ActorNo, Msg, OutOfMemory, Policy, Spot, TaskId, is_concurrent, is_teardown};
 use ccr_handler::PlayEnd;
-use ccr_wiring::{MAX_ACTOR, Wiring};
+use ccr_wiring::{MAX_ACTOR, Wiring, is_interleave};
 use std::alloc::Global;
 
 /// Whether the message is the poster's next line.

@@ -12,11 +12,10 @@ use crate::firings::{
     cut, dropped, ended, ever_admitted, last_segments, put, remove_all, spot_of, started,
     started_as,
 };
-use crate::placements::{PlacementOf, is_interleave, is_teardown};
 use crate::posts::posts_of_task;
 use crate::sites::root_of;
-use ccr_base::{ActorNo, OutOfMemory, QueueNo, Spot, TaskId};
-use ccr_wiring::{Wiring, branch_of};
+use ccr_base::{ActorNo, OutOfMemory, QueueNo, Spot, TaskId, is_teardown};
+use ccr_wiring::{PlacementOf, Wiring, branch_of, is_interleave};
 use std::alloc::Global;
 
 /// Which branches are meant, by the number of a domain or of a queue.

@@ -17,5 +17,5 @@ pub mod DomainsMatch
 pub mod MeterMatches
 pub mod PhasesFitPlans
 pub mod TasksAreBookedOnce
-pub mod GotIsAChoice
+pub mod GotIsASelection
 pub mod NotesAnswerAsks

@@ -24,25 +24,25 @@ AreStarted wiring count actors = (length actors ≡ count) × ((k : ℕ) (a : Ac
 
 -- the condition of the actor's next ask is met at its place
 abbrev pub IsMet : PlainState → Acting → Type 0
-IsMet stage a = (one : Asked) → next a ≡ Some one → is_some (note_of (scene_after stage.wiring stage.acts (number_at stage.wiring one.place)).0 one.ask) ≡ true
+IsMet state a = (one : Asked) → next a ≡ Some one → is_some (note_of (scene_after state.wiring state.acts (number_at state.wiring one.place)).0 one.ask) ≡ true
 
 -- the ask that the actor made is answered at its place, and the actor took in the reply; one that had memory still has
-pub record IsAnswered (stage : PlainState) (a : Acting) (entries : List Entry) (place : Place) (ask : Ask) (later : PlainState) (b : Acting) (more : List Entry) : Type 0 where
-  pub wiring : later.wiring ≡ stage.wiring
-  pub acts : later.acts ≡ stage.acts ++ act_after stage.wiring stage.acts a.actor place ask ∷ []
+pub record IsAnswered (state : PlainState) (a : Acting) (entries : List Entry) (place : Place) (ask : Ask) (later : PlainState) (b : Acting) (more : List Entry) : Type 0 where
+  pub wiring : later.wiring ≡ state.wiring
+  pub acts : later.acts ≡ state.acts ++ act_after state.wiring state.acts a.actor place ask ∷ []
   pub entry : Entry
-  pub is_entry : entry_of stage.wiring (act_after stage.wiring stage.acts a.actor place ask) ≡ Some entry
+  pub is_entry : entry_of state.wiring (act_after state.wiring state.acts a.actor place ask) ≡ Some entry
   pub added : more ≡ entries ++ entry ∷ []
   pub reply : Reply
-  pub replied : reply_of (scene_after stage.wiring stage.acts (number_at stage.wiring place)).0 ask ≡ Replied reply
+  pub replied : reply_of (scene_after state.wiring state.acts (number_at state.wiring place)).0 ask ≡ Replied reply
   pub heard : IsAfter a (Ok reply) b
   pub long : a.state.is_short ≡ false → b.state.is_short ≡ false
 
 -- the actor's next ask is answered so
-pub record IsStep (stage : PlainState) (a : Acting) (entries : List Entry) (later : PlainState) (b : Acting) (more : List Entry) : Type 0 where
+pub record IsStep (state : PlainState) (a : Acting) (entries : List Entry) (later : PlainState) (b : Acting) (more : List Entry) : Type 0 where
   pub one : Asked
   pub asks : next a ≡ Some one
-  pub made : IsAnswered stage (sent a) entries one.place one.ask later b more
+  pub made : IsAnswered state (sent a) entries one.place one.ask later b more
 
 -- it is short where it found no memory, after so many of these replies
 abbrev pub IsShortAfter : Option ℕ → List Reply → Bool → Type 0
@@ -55,9 +55,9 @@ pub record IsActing (wiring : Parts) (lacks : Lacks) (entries : List Entry) (k :
   pub short : IsShortAfter (lacks k) (replies_of wiring entries k) a.state.is_short
 
 -- the acts are a run, the entries are theirs, and each actor stands where these lead it
-pub record IsPlayed (workers : ℕ) (lacks : Lacks) (stage : PlainState) (actors : List Acting) (entries : List Entry) : Type 0 where
-  pub valid : IsValid stage.wiring
-  pub run : IsRunFrom (protocol stage.wiring lacks) (actor_count stage.wiring workers) (scene stage.wiring) (cast (protocol stage.wiring lacks)) stage.acts
-  pub same : entries ≡ entries_of stage.wiring stage.acts
-  pub count : length actors ≡ actor_count stage.wiring workers
-  pub acting : (k : ℕ) (a : Acting) → slice_get actors k ≡ Some a → IsActing stage.wiring lacks entries k a
+pub record IsPlayed (workers : ℕ) (lacks : Lacks) (state : PlainState) (actors : List Acting) (entries : List Entry) : Type 0 where
+  pub valid : IsValid state.wiring
+  pub run : IsRunFrom (protocol state.wiring lacks) (actor_count state.wiring workers) (scene state.wiring) (cast (protocol state.wiring lacks)) state.acts
+  pub same : entries ≡ entries_of state.wiring state.acts
+  pub count : length actors ≡ actor_count state.wiring workers
+  pub acting : (k : ℕ) (a : Acting) → slice_get actors k ≡ Some a → IsActing state.wiring lacks entries k a

@@ -13,13 +13,10 @@ use ccr_base::{ActorNo, OutOfMemory, Place};
 use ccr_claim::{Ask, Reply};
 use ccr_object::{Deed, PlaceAnswer, PlaceObject, place_objects};
 use ccr_runs::{Act, Directory, Entry, entry_at};
-use ccr_wiring::Wiring;
+use ccr_wiring::{MAX_ACTOR, Wiring};
 use std::alloc::Global;
 use std::marker::Model;
 use std::snapshot::Snapshot;
-
-/// So many actors there can be: 16 posters and 16 workers.
-const ACTORS: usize = 32;
 
 /// The objects of all places of a wiring, on one thread and without locks. Contracts see the acts so far, which take no
 /// memory, and for how many more there is room.
@@ -53,7 +50,8 @@ impl<'w> PlainPlaces<'w> {
         let directory = Directory::of(alloc, wiring)?;
         let objects = place_objects(alloc, wiring)?.into_vec();
         let place_stamps = zeros(alloc, objects.len())?;
-        let actor_stamps = zeros(alloc, ACTORS)?;
+        // the posters and the workers are numbered below the closer
+        let actor_stamps = zeros(alloc, MAX_ACTOR as usize)?;
         Ok(PlainPlaces {
             wiring,
             directory,

@@ -25,7 +25,7 @@ use Rattle.ccr_claim.specs.declared.asks.Ask.TheVariants as asks
 use Rattle.ccr_claim.specs.declared.asks.Reply.{Reply}
 use Rattle.ccr_claim.specs.declared.asks.Reply.TheVariants as replies
 use Rattle.ccr_claim.specs.Wired.{IsSpotOf, AreCausesOf, IsDomainOf, IsMessageOf, IsTaskOf, HasQueueOf, IsHandedOf, IsKnown, IsReplyOf}
-use Rattle.ccr_object.specs.Numbers.{Known, numbers_of, no_numbers, domain_tests, has_domain, site_count, site_counts, arbiter_sites, has_spot, has_each, has_causes, knows_message, knows_task, has_handed, has_cut, is_known, names_known}
+use Rattle.ccr_object.specs.Numbers.{Numbers, numbers_of, no_numbers, domain_tests, has_domain, site_count, site_counts, arbiter_sites, has_spot, has_each, has_causes, knows_message, knows_task, has_handed, has_cut, is_known, names_known}
 
 module _ (wiring : Parts) where
   one_arbiter : (arbiter : ℕ) (kind : Kind) (branches : List BranchPart) (rest : List Placement)
@@ -208,7 +208,7 @@ all_from p P each [] all = refl
 all_from p P each (x ∷ xs) all = and_from (p x) (list_all p xs) (each x (All-head P x xs all)) (all_from p P each xs (All-tail P x xs all))
 
 -- a reply that names only numbers of which each is the wiring's
-module _ (wiring : Parts) (known : Known) (message_of : (m : Msg) → knows_message known m ≡ true → IsMessageOf wiring m) (task_of : (t : Task) → knows_task known t ≡ true → IsTaskOf wiring t) (cut_of : (c : Cut) → has_cut known c ≡ true → HasQueueOf wiring c) where
+module _ (wiring : Parts) (known : Numbers) (message_of : (m : Msg) → knows_message known m ≡ true → IsMessageOf wiring m) (task_of : (t : Task) → knows_task known t ≡ true → IsTaskOf wiring t) (cut_of : (c : Cut) → has_cut known c ≡ true → HasQueueOf wiring c) where
   handed_of : (o : Option Task) → has_handed known o ≡ true → IsHandedOf wiring o
   handed_of None e = tt
   handed_of (Some t) e = task_of t e

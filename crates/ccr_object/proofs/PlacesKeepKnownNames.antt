@@ -14,7 +14,7 @@ use Rattle.ccr_base.specs.declared.tasks.By.{By}
 use Rattle.ccr_base.specs.declared.tasks.By.TheVariants.{Fired as ByFired}
 use Rattle.ccr_base.specs.declared.tasks.Commit.TheVariants.{Fired, Dead}
 use Rattle.ccr_base.specs.declared.tasks.Task.{Task}
-use Rattle.ccr_base.specs.Choice.{holds, fitting, is_choosable}
+use Rattle.ccr_base.specs.Selection.{holds, fitting, is_choosable}
 use Rattle.ccr_base.proofs.Lists.{all_more}
 use Rattle.ccr_base.specs.Lists.{are_apart}
 use Rattle.ccr_wiring.specs.declared.parts.Kind.{Kind}
@@ -52,7 +52,7 @@ use Rattle.ccr_object.specs.Commits.{commit_reply, committed}
 use Rattle.ccr_object.specs.Interleaves as domains
 use Rattle.ccr_object.specs.Keeping.{answers_known, keeps_known, keeps_own}
 use Rattle.ccr_object.specs.Meters as meters
-use Rattle.ccr_object.specs.Numbers.{Known, has_causes, has_cut, has_domain, has_each, has_handed, knows_message, has_spot, knows_task, is_known, names_known, numbers_of}
+use Rattle.ccr_object.specs.Numbers.{Numbers, has_causes, has_cut, has_domain, has_each, has_handed, knows_message, has_spot, knows_task, is_known, names_known, numbers_of}
 use Rattle.ccr_object.specs.Objects.{after, after_at, answer, answered, reply_of}
 use Rattle.ccr_object.specs.Ports as ports
 use Rattle.ccr_object.specs.Queues as queues
@@ -84,7 +84,7 @@ all_filter p q (x ∷ xs) all =
     let rest = all_filter p q xs parts.1 in
     chosen (λ ys. list_all p ys ≡ true) (q x) (x ∷ filter q xs) (filter q xs) (and_from (p x) (list_all p (filter q xs)) parts.0 rest) rest
 
-module _ (known : Known) where
+module _ (known : Numbers) where
   -- ---- replies
 
   -- an answer with a condition

@@ -21,7 +21,7 @@ use Rattle.ccr_claim.specs.declared.asks.Reply.TheVariants as replies
 
 -- how many ports, queues and causes there are, of each arbiter whether its number is that of its domain, and of each branch
 -- how many sites it has
-pub record Known : Type 0 where
+pub record Numbers : Type 0 where
   pub ports : ℕ
   pub queues : ℕ
   pub causes : ℕ
@@ -46,7 +46,7 @@ domain_tests domains zero = []
 domain_tests domains (suc number) = domain_tests domains number ++ (domain_of domains number == number) ∷ []
 
 -- how many of each kind the wiring has
-abbrev pub numbers_of : Parts → Known
+abbrev pub numbers_of : Parts → Numbers
 numbers_of wiring = record {
   ports = length wiring.ports;
   queues = length wiring.queues;
@@ -56,16 +56,16 @@ numbers_of wiring = record {
 }
 
 -- of a wiring that has nothing
-abbrev pub no_numbers : Known
+abbrev pub no_numbers : Numbers
 no_numbers = record { ports = 0; queues = 0; causes = 0; domains = []; sites = [] }
 
 -- whether the spot is one of them
-abbrev pub has_spot : Known → Spot → Bool
+abbrev pub has_spot : Numbers → Spot → Bool
 has_spot known (Branch branch) = nat_lt branch (length known.sites)
 has_spot known (Site branch site) = option_map_or (λ count. nat_lt site count) (slice_get known.sites branch) false
 
 -- whether the number is that of a domain
-abbrev pub has_domain : Known → ℕ → Bool
+abbrev pub has_domain : Numbers → ℕ → Bool
 has_domain known number = option_map_or (λ (own : Bool). own) (slice_get known.domains number) false
 
 -- whether each cause is one of them
@@ -73,19 +73,19 @@ abbrev pub has_each : ℕ → List ℕ → Bool
 has_each count causes = list_all (λ cause. nat_lt cause count) causes
 
 -- whether each cause is one of them and none stands twice
-abbrev pub has_causes : Known → List ℕ → Bool
+abbrev pub has_causes : Numbers → List ℕ → Bool
 has_causes known causes = has_each known.causes causes && are_apart causes
 
 -- whether there are the message's port and causes
-abbrev pub knows_message : Known → Msg → Bool
+abbrev pub knows_message : Numbers → Msg → Bool
 knows_message known message = nat_lt message.port known.ports && has_causes known message.causes
 
 -- whether there are the task's spot, domain, queue and causes
-abbrev pub knows_task : Known → Task → Bool
+abbrev pub knows_task : Numbers → Task → Bool
 knows_task known task = has_spot known task.spot && has_domain known task.arbiter && nat_lt task.queue known.queues && has_causes known task.causes
 
 -- whether all numbers in the ask are among these, and no cause stands twice in its message or task
-abbrev pub is_known : Known → Ask → Bool
+abbrev pub is_known : Numbers → Ask → Bool
 is_known known (asks.Post message) = knows_message known message
 is_known known (asks.Claim task slot) = nat_lt slot.port known.ports
 is_known known (asks.Commit task messages) = knows_task known task
@@ -94,16 +94,16 @@ is_known known (asks.Put task) = knows_task known task
 is_known known _ = true
 
 -- whether the task, where there is one, is one of these
-abbrev pub has_handed : Known → Option Task → Bool
+abbrev pub has_handed : Numbers → Option Task → Bool
 has_handed known None = true
 has_handed known (Some task) = knows_task known task
 
 -- whether there is the queue that the cut task was booked at
-abbrev pub has_cut : Known → Cut → Bool
+abbrev pub has_cut : Numbers → Cut → Bool
 has_cut known cut = nat_lt cut.queue known.queues
 
 -- whether all numbers in the reply are among these, and no cause stands twice in a message or task of it
-abbrev pub names_known : Known → Reply → Bool
+abbrev pub names_known : Numbers → Reply → Bool
 names_known known (replies.Got messages) = list_all (knows_message known) messages
 names_known known (replies.Fired task cuts) = has_handed known task && list_all (has_cut known) cuts
 names_known known (replies.Admitted task) = has_handed known task

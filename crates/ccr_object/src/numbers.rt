@@ -27,9 +27,9 @@ pub struct Numbers {
 }
 
 impl Model for Numbers {
-    ghost use Rattle.ccr_object.specs.Numbers.{Known};
+    ghost use Rattle.ccr_object.specs.Numbers.{Numbers as NumbersOf};
 
-    ghost Value = { Known };
+    ghost Value = { NumbersOf };
 
     ghost view = { λ numbers. record { ports = numbers.ports; queues = numbers.queues; causes = numbers.causes; domains = numbers.domains.items; sites = numbers.sites.items } };
 }

@@ -21,6 +21,7 @@ pub fn places_of(alloc: Global, wiring: &Wiring) -> Result<List<Place>, OutOfMem
     ensures places { IfOk result (λ places. places ≡ places_of wiring.now) }
     ensures count { IfOk result (λ places. (1 ≤ length places) × (length places ≤ most_places)) }
 {
+    // `parts` says that the wiring is valid.
     let _valid = wiring.parts();
     let places = all_places(alloc, wiring)?;
     Ok(places)
@@ -152,6 +153,7 @@ fn count_of(wiring: &Wiring, domain: ArbiterNo, listed: &[(BranchNo, Group)]) ->
     requires { listed.now ≡ members wiring.now domain }
     ensures { result ≡ length listed.now }
 {
+    // `parts` says that the wiring is valid.
     let _valid = wiring.parts();
     listed.len() as u32
 }

@@ -11,7 +11,7 @@ use Rattle.ccr_runs.specs.Visible.{visible}
 use Rattle.ccr_space.specs.Closes.{IsAtEnd, IsBroughtToRest}
 use Rattle.ccr_opening.specs.Begins.{Begins}
 
-at_rest : (wiring : Parts) (entries : List Entry) (actor : ℕ) → IsAtEnd wiring entries [] actor → next wiring actor None (replies_of wiring entries actor) ≡ None
+pub at_rest : (wiring : Parts) (entries : List Entry) (actor : ℕ) → IsAtEnd wiring entries [] actor → next wiring actor None (replies_of wiring entries actor) ≡ None
 at_rest wiring entries actor (inl short) = absurd (cc)
 at_rest wiring entries actor (inr rests) = rests
 

@@ -1,1 +1,1 @@
-mod Beginnings
+pub mod Beginnings

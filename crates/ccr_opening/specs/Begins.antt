@@ -1,5 +1,5 @@
 -- What stands in a history before the events of the serial order.
-use Rattle.std.specs.Prelude.{◌≡◌, ◌<◌, ℕ, zero, suc, ◌+◌, List, [], length, Option, Some, None}
+use Rattle.std.specs.Prelude.{◌≡◌, ◌<◌, ℕ, zero, suc, List, [], Option, Some, None}
 use Rattle.ccr_wiring.specs.Actors.{actor_count}
 use Rattle.ccr_wiring.specs.declared.parts.Parts.{Parts}
 use Rattle.ccr_model.specs.declared.history.Event.{Event}
@@ -19,4 +19,4 @@ pub record IsRunToRest (wiring : Parts) (workers : ℕ) (entries : List Entry) :
 abbrev pub Begins : Parts → ℕ → Option (List ℕ) → List Event → Type 0
 Begins wiring workers (Some turns) first = first ≡ visible (scheduled wiring turns)
 Begins wiring zero None first = first ≡ []
-Begins wiring (suc n) None first = (entries : List Entry) × IsRunToRest wiring (suc n) entries × IsBroughtToRest wiring (length wiring.posters + suc n) entries [] × (first ≡ visible entries)
+Begins wiring (suc n) None first = (entries : List Entry) × IsRunToRest wiring (suc n) entries × IsBroughtToRest wiring (actor_count wiring (suc n)) entries [] × (first ≡ visible entries)

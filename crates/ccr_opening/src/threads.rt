@@ -59,6 +59,7 @@ pub fn run_threads_in_full<R: Threads + Wait + Sync, G: Gate + Sync>(
 {
     played_runs_are_runs();
     visible_runs_are_legal_and_covered();
+    // `parts` says that the wiring is valid, on which the promises stand.
     let _valid = wiring.parts();
     let closed = closed_threads(rt, alloc, wiring, workers, gate)?;
     Ok(closed)

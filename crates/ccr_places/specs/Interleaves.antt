@@ -43,7 +43,7 @@ start branches groups = record { branches = branches; groups = groups; fired = [
 
 -- the group of the spot, where it is one of the branches
 abbrev pub group_among : List ℕ → List Group → Spot → Option Group
-group_among branches groups (Branch branch) = option_and_then (λ place. slice_get groups place) (position (λ other. other == branch) branches)
+group_among branches groups (Branch branch) = option_and_then (λ index. slice_get groups index) (position (λ other. other == branch) branches)
 group_among branches groups (Site branch site) = None
 
 -- the group of the spot, where it is a branch of this Interleave

@@ -14,7 +14,7 @@ use Rattle.ccr_base.specs.declared.messages.Msg.{Msg}
 use Rattle.ccr_base.specs.declared.patterns.Pred.{Pred}
 use Rattle.ccr_base.specs.declared.patterns.Slot.{Slot}
 use Rattle.ccr_base.specs.Names.{same_task}
-use Rattle.ccr_base.specs.Choice.{holds, fitting, is_choosable}
+use Rattle.ccr_base.specs.Selection.{holds, fitting, is_choosable}
 use Rattle.ccr_places.specs.declared.claims.StandingClaim.{StandingClaim}
 use Rattle.ccr_places.specs.declared.notes.ClaimNote.{ClaimNote}
 use Rattle.ccr_places.specs.declared.notes.ClaimNote.TheVariants.{Got, Busy, Short}
@@ -72,7 +72,7 @@ may_consume port task = is_claimed_by port task
 abbrev pub may_free : PortState → TaskId → Bool
 may_free port task = is_claimed_by port task
 
--- what a free port answers to a claim: the number of the choice, or how many satisfy the predicate where they are too few
+-- what a free port answers to a claim: the number of the selection, or how many satisfy the predicate where they are too few
 abbrev pub free_claim_note : Slot → List Msg → ClaimNote
 free_claim_note slot messages = if is_choosable slot messages then Got (length (first_fitting slot.most slot.pred messages)) else Short (length (fitting slot.pred messages))
 

@@ -5,6 +5,7 @@ use Rattle.std.specs.List.{slice_get}
 use Rattle.std.specs.Option.{option_map_or}
 use Rattle.std.proofs.lemmas.Bool.Decides.{nat_tests}
 use Rattle.std.proofs.lemmas.List.{length-reverse}
+use Rattle.std.proofs.lemmas.Option.{same_Some}
 use Rattle.ccr_base.specs.declared.messages.Sent.{Sent}
 use Rattle.ccr_base.specs.declared.names.Place.TheVariants as places
 use Rattle.ccr_base.specs.declared.names.Spot.{Spot}
@@ -48,11 +49,11 @@ phase_weight booking = 0
 phase_weight (claiming slots had) = length had + 2
 
 abbrev pub work_weight : Work → ℕ
-work_weight (lines place sents) = 0
+work_weight (lines index sents) = 0
 work_weight round = 0
 work_weight (taking left queue more) = 0
-work_weight (playing task place play) = 1
-work_weight (posting task place play sent) = 1
+work_weight (playing task index play) = 1
+work_weight (posting task index play sent) = 1
 work_weight (shedding task) = 1
 work_weight resting = 0
 
@@ -288,44 +289,41 @@ take-worked w st left queue more (replies.Left n) = taken-on w st (taking left q
 over-worked : (w : Parts) (st : State) (task : Task) (wk : Work) (ask : Ask) (r : Reply) → work_weight wk ≡ 1 → cost ask ≡ 1 → IsWorked st wk ask r (after_over w st task)
 over-worked w st task wk ask r one costs = let none = next_round-weighs st.taken in (refl, refl, omega (arith, one, costs, none))
 
-end-worked : (w : Parts) (st : State) (task : Task) (place : ℕ) (play : Play) (end : PlayEnd) (r : Reply) → IsWorked st (playing task place play) (end_ask task play end).ask r (after_end w st task end)
-end-worked w st task place play plays.Done r = over-worked w st task (playing task place play) (end_ask task play plays.Done).ask r refl refl
-end-worked w st task place play (plays.Failed value) r = over-worked w st task (playing task place play) (end_ask task play (plays.Failed value)).ask r refl refl
-end-worked w st task place play (plays.Yield site) r = let none = next_round-weighs st.taken in (refl, refl, omega (arith, none))
+end-worked : (w : Parts) (st : State) (task : Task) (index : ℕ) (play : Play) (end : PlayEnd) (r : Reply) → IsWorked st (playing task index play) (end_ask task play end).ask r (after_end w st task end)
+end-worked w st task index play plays.Done r = over-worked w st task (playing task index play) (end_ask task play plays.Done).ask r refl refl
+end-worked w st task index play (plays.Failed value) r = over-worked w st task (playing task index play) (end_ask task play (plays.Failed value)).ask r refl refl
+end-worked w st task index play (plays.Yield site) r = let none = next_round-weighs st.taken in (refl, refl, omega (arith, none))
 
-play-worked : (w : Parts) (st : State) (task : Task) (place : ℕ) (play : Play) (posts : List Sent) (r : Reply) → IsWorked st (playing task place play) (play_ask task play posts).ask r (after_play w st task place play posts r)
-play-worked w st task place play [] r = end-worked w st task place play play.end r
-play-worked w st task place play (sent ∷ posts) replies.Done = (refl, refl, omega arith)
-play-worked w st task place play (sent ∷ posts) (replies.Got m) = (refl, refl, omega arith)
-play-worked w st task place play (sent ∷ posts) (replies.Busy t) = (refl, refl, omega arith)
-play-worked w st task place play (sent ∷ posts) (replies.Short n) = (refl, refl, omega arith)
-play-worked w st task place play (sent ∷ posts) (replies.Fired t cuts) = (refl, refl, omega arith)
-play-worked w st task place play (sent ∷ posts) (replies.Dead x) = (refl, refl, omega arith)
-play-worked w st task place play (sent ∷ posts) (replies.Admitted t) = (refl, refl, omega arith)
-play-worked w st task place play (sent ∷ posts) replies.Booked = (refl, refl, omega arith)
-play-worked w st task place play (sent ∷ posts) (replies.Full n) = (refl, refl, omega arith)
-play-worked w st task place play (sent ∷ posts) (replies.Dropped t) = (refl, refl, omega arith)
-play-worked w st task place play (sent ∷ posts) (replies.Taken t) = (refl, refl, omega arith)
-play-worked w st task place play (sent ∷ posts) (replies.Drawn n) = (refl, refl, omega arith)
-play-worked w st task place play (sent ∷ posts) replies.Spent = (refl, refl, omega arith)
-play-worked w st task place play (sent ∷ posts) (replies.Left n) = (refl, refl, omega arith)
-
-some_ask : (y x : Asked) → Some y ≡ Some x → y ≡ x
-some_ask y x is = cc
+play-worked : (w : Parts) (st : State) (task : Task) (index : ℕ) (play : Play) (posts : List Sent) (r : Reply) → IsWorked st (playing task index play) (play_ask task play posts).ask r (after_play w st task index play posts r)
+play-worked w st task index play [] r = end-worked w st task index play play.end r
+play-worked w st task index play (sent ∷ posts) replies.Done = (refl, refl, omega arith)
+play-worked w st task index play (sent ∷ posts) (replies.Got m) = (refl, refl, omega arith)
+play-worked w st task index play (sent ∷ posts) (replies.Busy t) = (refl, refl, omega arith)
+play-worked w st task index play (sent ∷ posts) (replies.Short n) = (refl, refl, omega arith)
+play-worked w st task index play (sent ∷ posts) (replies.Fired t cuts) = (refl, refl, omega arith)
+play-worked w st task index play (sent ∷ posts) (replies.Dead x) = (refl, refl, omega arith)
+play-worked w st task index play (sent ∷ posts) (replies.Admitted t) = (refl, refl, omega arith)
+play-worked w st task index play (sent ∷ posts) replies.Booked = (refl, refl, omega arith)
+play-worked w st task index play (sent ∷ posts) (replies.Full n) = (refl, refl, omega arith)
+play-worked w st task index play (sent ∷ posts) (replies.Dropped t) = (refl, refl, omega arith)
+play-worked w st task index play (sent ∷ posts) (replies.Taken t) = (refl, refl, omega arith)
+play-worked w st task index play (sent ∷ posts) (replies.Drawn n) = (refl, refl, omega arith)
+play-worked w st task index play (sent ∷ posts) replies.Spent = (refl, refl, omega arith)
+play-worked w st task index play (sent ∷ posts) (replies.Left n) = (refl, refl, omega arith)
 
 work-worked : (w : Parts) (a : ℕ) (st : State) (wk : Work) (one : Asked) (r : Reply) → st.work ≡ wk → work_ask a wk ≡ Some one → IsWorked st wk one.ask r (after_work w st wk r)
 work-worked w a st wk one r = by wk
   where
     told : (y : Asked) (v : Work) (new : State) → IsWorked st v y.ask r new → Some y ≡ Some one → IsWorked st v one.ask r new
-    told y v new worked is = subst (λ (x : Asked). IsWorked st v x.ask r new) (some_ask y one is) worked
+    told y v new worked is = subst (λ (x : Asked). IsWorked st v x.ask r new) (same_Some y one is) worked
 
     by : (v : Work) → st.work ≡ v → work_ask a v ≡ Some one → IsWorked st v one.ask r (after_work w st v r)
-    by (lines place []) is = told (line_ask a place []) (lines place []) (after_line w st place []) (refl, refl, omega arith)
-    by (lines place (sent ∷ sents)) is = told (line_ask a place (sent ∷ sents)) (lines place (sent ∷ sents)) (after_line w st place (sent ∷ sents)) (refl, refl, omega arith)
+    by (lines index []) is = told (line_ask a index []) (lines index []) (after_line w st index []) (refl, refl, omega arith)
+    by (lines index (sent ∷ sents)) is = told (line_ask a index (sent ∷ sents)) (lines index (sent ∷ sents)) (after_line w st index (sent ∷ sents)) (refl, refl, omega arith)
     by round is = told (at_place places.Meter asks.Left) round (after_round w st r) (round-worked w st asks.Left r is refl)
     by (taking left queue more) is = told (at_place (places.Queue queue) asks.Take) (taking left queue more) (after_take w st left queue more r) (take-worked w st left queue more r)
-    by (playing task place play) is = told (play_ask task play play.posts) (playing task place play) (after_play w st task place play play.posts r) (play-worked w st task place play play.posts r)
-    by (posting task place play sent) is = told (post_ask task place sent) (posting task place play sent) (after_work w st (posting task place play sent) r) (refl, refl, omega arith)
+    by (playing task index play) is = told (play_ask task play play.posts) (playing task index play) (after_play w st task index play play.posts r) (play-worked w st task index play play.posts r)
+    by (posting task index play sent) is = told (post_ask task index sent) (posting task index play sent) (after_work w st (posting task index play sent) r) (refl, refl, omega arith)
     by (shedding task) is = told (at_place (places.Arbiter task.arbiter) (asks.Over task.id task.root hows.Shed)) (shedding task) (after_over w st task) (over-worked w st task (shedding task) (asks.Over task.id task.root hows.Shed) r refl refl)
     by resting is = λ never. absurd (cc)
 
@@ -342,15 +340,15 @@ work-afforded : (a : ℕ) (wk : Work) (one : Asked) → work_ask a wk ≡ Some o
 work-afforded a wk one = by wk
   where
     told : (y : Asked) (n : ℕ) → cost y.ask ≤ n → Some y ≡ Some one → cost one.ask ≤ n
-    told y n costs is = subst (λ (x : Asked). cost x.ask ≤ n) (some_ask y one is) costs
+    told y n costs is = subst (λ (x : Asked). cost x.ask ≤ n) (same_Some y one is) costs
 
     by : (v : Work) → work_ask a v ≡ Some one → cost one.ask ≤ work_weight v
-    by (lines place []) = told (line_ask a place []) 0 (omega arith)
-    by (lines place (sent ∷ sents)) = told (line_ask a place (sent ∷ sents)) 0 (omega arith)
+    by (lines index []) = told (line_ask a index []) 0 (omega arith)
+    by (lines index (sent ∷ sents)) = told (line_ask a index (sent ∷ sents)) 0 (omega arith)
     by round = told (at_place places.Meter asks.Left) 0 (omega arith)
     by (taking left queue more) = told (at_place (places.Queue queue) asks.Take) 0 (omega arith)
-    by (playing task place play) = told (play_ask task play play.posts) 1 (play-costs task play play.posts)
-    by (posting task place play sent) = told (post_ask task place sent) 1 (omega arith)
+    by (playing task index play) = told (play_ask task play play.posts) 1 (play-costs task play play.posts)
+    by (posting task index play sent) = told (post_ask task index sent) 1 (omega arith)
     by (shedding task) = told (at_place (places.Arbiter task.arbiter) (asks.Over task.id task.root hows.Shed)) 1 (omega arith)
     by resting = λ never. absurd (cc)
 
@@ -358,14 +356,14 @@ work-afforded a wk one = by wk
 
 module _ (w : Parts) (a : ℕ) (st : State) (one : Asked) where
   told : (P : Asked → Type 0) (y : Asked) → Some y ≡ Some one → P y → P one
-  told P y is p = subst P (some_ask y one is) p
+  told P y is p = subst P (same_Some y one is) p
 
   paid-in : (t : Turn) (r : Reply) → IsTurnOf st t → ask_in w a st t ≡ Some one → fits (due_of one.ask) r ≡ true → IsPaid st one.ask r (after_in w a st t r)
   paid-in (settle first more) r is is_next fit = told (λ x. IsPaid st x.ask r (settled w st more r)) first is_next (settled-paid w st first more r is)
-  paid-in (admit arbiter more) r is is_next fit = told (λ x. IsPaid st x.ask r (after_admit st more r)) (at_place (places.Arbiter arbiter) asks.Admit) is_next (admit-paid w st more r is.1)
+  paid-in (admit domain more) r is is_next fit = told (λ x. IsPaid st x.ask r (after_admit st more r)) (at_place (places.Arbiter domain) asks.Admit) is_next (admit-paid w st more r is.1)
   paid-in (drive spot more) r is is_next fit =
       let y = attempt_ask (plan_of w spot) (name_at a st) st.phase in
-      let same = some_ask y one is_next in
+      let same = same_Some y one is_next in
       subst (λ (x : Asked). IsPaid st x.ask r (after_attempt w a st spot more r)) same (drive-paid w a st spot more is.1 r (subst (λ (x : Asked). fits (due_of x.ask) r ≡ true) (sym same) fit))
   paid-in go_on r is is_next fit =
       let worked = work-worked w a st st.work one r refl is_next in
@@ -378,7 +376,7 @@ module _ (w : Parts) (a : ℕ) (st : State) (one : Asked) where
 
   afforded-in : (t : Turn) → IsTurnOf st t → ask_in w a st t ≡ Some one → cost one.ask ≤ weight st
   afforded-in (settle first more) is is_next = told (λ x. cost x.ask ≤ weight st) first is_next (let all = ap hand_weight is in omega (arith, all))
-  afforded-in (admit arbiter more) is is_next = told (λ x. cost x.ask ≤ weight st) (at_place (places.Arbiter arbiter) asks.Admit) is_next (omega arith)
+  afforded-in (admit domain more) is is_next = told (λ x. cost x.ask ≤ weight st) (at_place (places.Arbiter domain) asks.Admit) is_next (omega arith)
   afforded-in (drive spot more) is is_next = told (λ x. cost x.ask ≤ weight st) (attempt_ask (plan_of w spot) (name_at a st) st.phase) is_next (let less = drive-afforded w a st spot more is.1 in omega (arith, less))
   afforded-in go_on is is_next = let less = work-afforded a st.work one is_next in omega (arith, less)
   afforded-in stop is is_next = absurd (cc)

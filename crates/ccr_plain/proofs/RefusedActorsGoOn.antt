@@ -1,5 +1,5 @@
 -- An actor that is refused memory: what it asks from then on, and that the run so far is one in which it lacks memory from here on.
-use Rattle.std.proofs.Common.{◌≡◌, ◌<◌, ◌≤◌, ℕ, ◌+◌, Bool, true, false, List, [], ◌∷◌, ◌++◌, length, length-append, take, drop, get_or, Option, Some, None, Result, Ok, Err, IfOk, refl, sym, arith, ap, ◌∙◌, subst, cond}
+use Rattle.std.proofs.Common.{◌≡◌, ◌<◌, ◌≤◌, ℕ, ◌+◌, Bool, true, false, List, [], ◌∷◌, ◌++◌, length, length-append, take, drop, get_or, Option, Some, None, refl, sym, arith, ap, ◌∙◌, subst, cond}
 use Rattle.std.specs.Prelude.{◌==◌, if◌then◌else◌, nat_le, slice_get, slice_set}
 use Rattle.std.specs.Option.{option_map, option_and_then}
 use Rattle.std.proofs.lemmas.Bool.Decides.{nat_tests}
@@ -38,7 +38,7 @@ use Rattle.ccr_net.proofs.Played.OneMoreAct.{differs}
 use Rattle.ccr_net.proofs.Played.EachPlaceAnswers.{step_facts}
 use Rattle.ccr_net.proofs.Played.PlayedRunsAreRuns.{Matches, Matches-begins, act_adds}
 use Rattle.ccr_net.proofs.Played.NextAsksAreAnswered.{StepFacts}
-use Rattle.ccr_net.proofs.Played.PlayedRunsGoOn.{cast_from, drop_here, got_other, got_set, match_so, next_same, played_run, standing, step_made, step_played}
+use Rattle.ccr_net.proofs.Played.PlayedRunsGoOn.{cast_from, drop_here, got_other, got_set, match_so, next_same, played_run, acting_of, step_made, step_played}
 
 same_length : (n : ℕ) → n ≤ n
 same_length n = omega arith
@@ -69,7 +69,7 @@ refusable asks.Left goes = refl
 -- once short it is the same whether it had asked or not
 short_same : (w : Parts) (k : ℕ) (state : State) (t : Turn) (one : Asked) → IsTurnOf state t → AreSettling state.hand → ask_in w k state t ≡ Some one → is_settling one.ask ≡ false → kept (shorten w k (sent_state state t)) ≡ kept (shorten w k state)
 short_same w k state (settle first more) one at all is goes = let same : first ≡ one = cc is in cc (sym (subst AreSettling at all).0 ∙ (ap (λ (x : Asked). is_settling x.ask) same ∙ goes))
-short_same w k state (admit arbiter more) one at all is goes = refl
+short_same w k state (admit domain more) one at all is goes = refl
 short_same w k state (drive spot more) one at all is goes = refl
 short_same w k state go_on one at all is goes = refl
 short_same w k state stop one at all is goes = cc is
@@ -83,7 +83,7 @@ refusal_stands w k given a b one stands long asks goes so =
     so
     ∙ ap (λ (x : Acting). shortened (sent x)) stands
     ∙ ap (λ (s : State). at_state w k (shorten w k (sent_state s (turn s)))) whole
-    ∙ ap (standing w k) same
+    ∙ ap (acting_of w k) same
     ∙ ap (at_state w k) (sym (state_short w k given))
 
 -- an actor whose ask doesn't settle has had memory throughout
@@ -184,12 +184,12 @@ module _ (w : Parts) (workers : ℕ) (lacks : Lacks) (valid : IsValid w) (few : 
 
 -- ---- one turn
 
-module _ (workers : ℕ) (lacks : Lacks) (stage : PlainState) (team : List Acting) (entries : List Entry) (few : workers ≤ 16) (played : IsPlayed workers lacks stage team entries) (k : ℕ) (low : k < length team) (a : Acting) (there : slice_get team k ≡ Some a) where
+module _ (workers : ℕ) (lacks : Lacks) (state : PlainState) (team : List Acting) (entries : List Entry) (few : workers ≤ 16) (played : IsPlayed workers lacks state team entries) (k : ℕ) (low : k < length team) (a : Acting) (there : slice_get team k ≡ Some a) where
   abbrev w : Parts
-  w = stage.wiring
+  w = state.wiring
 
   abbrev count : ℕ
-  count = length (replies_of stage.wiring entries k)
+  count = length (replies_of state.wiring entries k)
 
   module _ (b : Acting) (one : Asked) (asks : next a ≡ Some one) (goes : is_settling one.ask ≡ false) (so : b ≡ shortened (sent a)) where
     acting_so : IsActing w lacks entries k a
@@ -205,12 +205,12 @@ module _ (workers : ℕ) (lacks : Lacks) (stage : PlainState) (team : List Actin
             subst (λ i. IsActing w (lacking lacks k count) entries i x) j_is (subst (IsActing w (lacking lacks k count) entries k) (sym x_is) (acting_refused w lacks entries k a b one acting_so asks goes so))
         by false is = acting_beside w lacks entries k count j x is (played.acting j x (sym (got_other team k b j (differs k j is)) ∙ at))
 
-    run_so : IsRunFrom (protocol w (lacking lacks k count)) (length w.posters + workers) (scene w) (cast (protocol w (lacking lacks k count))) stage.acts
+    run_so : IsRunFrom (protocol w (lacking lacks k count)) (length w.posters + workers) (scene w) (cast (protocol w (lacking lacks k count))) state.acts
     run_so =
-        let P : List Entry → Type 0 = λ es. IsRunFrom (protocol w (lacking lacks k (length (replies_of w es k)))) (length w.posters + workers) (scene w) (cast (protocol w (lacking lacks k (length (replies_of w es k))))) stage.acts in
-        subst P (sym played.same) (run_refused w workers lacks played.valid few stage.acts played.run k (memory_so w lacks entries k a b one acting_so asks goes so))
+        let P : List Entry → Type 0 = λ es. IsRunFrom (protocol w (lacking lacks k (length (replies_of w es k)))) (length w.posters + workers) (scene w) (cast (protocol w (lacking lacks k (length (replies_of w es k))))) state.acts in
+        subst P (sym played.same) (run_refused w workers lacks played.valid few state.acts played.run k (memory_so w lacks entries k a b one acting_so asks goes so))
 
-    pub played_refused : IsPlayed workers (lacking lacks k (length (replies_of stage.wiring entries k))) stage (slice_set team k b) entries
+    pub played_refused : IsPlayed workers (lacking lacks k (length (replies_of state.wiring entries k))) state (slice_set team k b) entries
     played_refused = record {
       valid = played.valid;
       run = run_so;
@@ -223,19 +223,19 @@ module _ (workers : ℕ) (lacks : Lacks) (stage : PlainState) (team : List Actin
     abbrev run : SoFar
     run = record { lacks = lacks; asks = asks; entries = entries }
 
-    pub rest_turned : next a ≡ None → HasRun workers (turned stage.wiring refused (record { lacks = lacks; asks = asks; entries = entries }) k) stage team entries asks
+    pub rest_turned : next a ≡ None → HasRun workers (turned state.wiring refused (record { lacks = lacks; asks = asks; entries = entries }) k) state team entries asks
     rest_turned none =
         let is : actors.next w k (lacks k) (replies_of w entries k) ≡ None = sym (next_same w lacks entries k a (played.acting k a there)) ∙ none in
-        subst (λ r. HasRun workers r stage team entries asks) (sym (ap (turned_by w refused run k) is)) (record { played = played; number = refl; same = refl })
+        subst (λ r. HasRun workers r state team entries asks) (sym (ap (turned_by w refused run k) is)) (record { played = played; number = refl; same = refl })
 
-    module _ (later : PlainState) (b : Acting) (more : List Entry) (number : ℕ) (turn : IsTurn refused asks stage a entries later b more number) where
-      by_turn : (s r : Bool) → is_settling turn.one.ask ≡ s → IsTaken s r turn.one asks stage a entries later b more number → HasRun workers (if s then make w run k else (if r then refuse w (counted run) k else make w (counted run) k)) later (slice_set team k b) more number
+    module _ (later : PlainState) (b : Acting) (more : List Entry) (number : ℕ) (turn : IsTurn refused asks state a entries later b more number) where
+      by_turn : (s r : Bool) → is_settling turn.one.ask ≡ s → IsTaken s r turn.one asks state a entries later b more number → HasRun workers (if s then make w run k else (if r then refuse w (counted run) k else make w (counted run) k)) later (slice_set team k b) more number
       by_turn true r is taken =
-          let step : IsStep stage a entries later b more = record { one = turn.one; asks = turn.is; made = taken.0 } in
+          let step : IsStep state a entries later b more = record { one = turn.one; asks = turn.is; made = taken.0 } in
           record {
-            played = step_played workers lacks stage team entries few played k low a there later b more step;
+            played = step_played workers lacks state team entries few played k low a there later b more step;
             number = taken.1;
-            same = step_made workers lacks stage team entries few played k low a there later b more step;
+            same = step_made workers lacks state team entries few played k low a there later b more step;
           }
       by_turn false true is taken =
           let here = played_refused b turn.one turn.is is taken.0 in
@@ -246,53 +246,49 @@ module _ (workers : ℕ) (lacks : Lacks) (stage : PlainState) (team : List Actin
             same = taken.1.1.0;
           }
       by_turn false false is taken =
-          let step : IsStep stage a entries later b more = record { one = turn.one; asks = turn.is; made = taken.0 } in
+          let step : IsStep state a entries later b more = record { one = turn.one; asks = turn.is; made = taken.0 } in
           record {
-            played = step_played workers lacks stage team entries few played k low a there later b more step;
+            played = step_played workers lacks state team entries few played k low a there later b more step;
             number = taken.1;
-            same = step_made workers lacks stage team entries few played k low a there later b more step;
+            same = step_made workers lacks state team entries few played k low a there later b more step;
           }
 
-      pub turn_turned : HasRun workers (turned stage.wiring refused (record { lacks = lacks; asks = asks; entries = entries }) k) later (slice_set team k b) more number
+      pub turn_turned : HasRun workers (turned state.wiring refused (record { lacks = lacks; asks = asks; entries = entries }) k) later (slice_set team k b) more number
       turn_turned =
           let is : actors.next w k (lacks k) (replies_of w entries k) ≡ Some turn.one = sym (next_same w lacks entries k a (played.acting k a there)) ∙ turn.is in
           subst (λ r. HasRun workers r later (slice_set team k b) more number) (sym (ap (turned_by w refused run k) is)) (by_turn (is_settling turn.one.ask) (has_number refused asks) refl turn.taken)
 
 -- what a turn leaves in any case: the wiring, and at most one ask more
-module _ (refused : List ℕ) (asks : ℕ) (stage : PlainState) (a : Acting) (entries : List Entry) (later : PlainState) (b : Acting) (more : List Entry) (number : ℕ) where
-  wiring_by : (s r : Bool) (one : Asked) → IsTaken s r one asks stage a entries later b more number → later.wiring ≡ stage.wiring
+module _ (refused : List ℕ) (asks : ℕ) (state : PlainState) (a : Acting) (entries : List Entry) (later : PlainState) (b : Acting) (more : List Entry) (number : ℕ) where
+  wiring_by : (s r : Bool) (one : Asked) → IsTaken s r one asks state a entries later b more number → later.wiring ≡ state.wiring
   wiring_by true r one taken = taken.0.wiring
   wiring_by false true one taken = ap (λ (s : PlainState). s.wiring) taken.1.0
   wiring_by false false one taken = taken.0.wiring
 
-  few_by : (s r : Bool) (one : Asked) → IsTaken s r one asks stage a entries later b more number → number ≤ asks + 1
+  few_by : (s r : Bool) (one : Asked) → IsTaken s r one asks state a entries later b more number → number ≤ asks + 1
   few_by true r one taken = let same = taken.1 in omega (arith, same)
   few_by false true one taken = let same = taken.1.1.1 in omega (arith, same)
   few_by false false one taken = let same = taken.1 in omega (arith, same)
 
-  pub turn_wiring : IsTurn refused asks stage a entries later b more number → later.wiring ≡ stage.wiring
+  pub turn_wiring : IsTurn refused asks state a entries later b more number → later.wiring ≡ state.wiring
   turn_wiring turn = wiring_by (is_settling turn.one.ask) (has_number refused asks) turn.one turn.taken
 
-  pub turn_few : IsTurn refused asks stage a entries later b more number → number ≤ asks + 1
+  pub turn_few : IsTurn refused asks state a entries later b more number → number ≤ asks + 1
   turn_few turn = few_by (is_settling turn.one.ask) (has_number refused asks) turn.one turn.taken
 
 -- a turn, by what became of its ask
-pub taken_turn : (s r : Bool) (refused : List ℕ) (asks : ℕ) (stage : PlainState) (a : Acting) (entries : List Entry) (later : PlainState) (b : Acting) (more : List Entry) (number : ℕ) (one : Asked) → next a ≡ Some one → is_settling one.ask ≡ s → has_number refused asks ≡ r → IsTaken s r one asks stage a entries later b more number → IsTurn refused asks stage a entries later b more number
-taken_turn s r refused asks stage a entries later b more number one is settles refuses taken =
-    let P : Bool → Bool → Type 0 = λ s r. IsTaken s r one asks stage a entries later b more number in
+pub taken_turn : (s r : Bool) (refused : List ℕ) (asks : ℕ) (state : PlainState) (a : Acting) (entries : List Entry) (later : PlainState) (b : Acting) (more : List Entry) (number : ℕ) (one : Asked) → next a ≡ Some one → is_settling one.ask ≡ s → has_number refused asks ≡ r → IsTaken s r one asks state a entries later b more number → IsTurn refused asks state a entries later b more number
+taken_turn s r refused asks state a entries later b more number one is settles refuses taken =
+    let P : Bool → Bool → Type 0 = λ s r. IsTaken s r one asks state a entries later b more number in
     record { one = one; is = is; taken = subst (λ x. P x (has_number refused asks)) (sym settles) (subst (P s) (sym refuses) taken) }
 
 -- ---- all turns
 
-pub if_ok : {X E : Type 0} {P Q : X → Type 0} (r : Result X E) → ((x : X) → P x → Q x) → IfOk r P → IfOk r Q
-if_ok (Ok x) f p = f x p
-if_ok (Err e) f p = tt
-
 -- the turns so far, and those still to come, give the whole run
-pub record IsAhead (workers : ℕ) (w : Parts) (refused turns : List ℕ) (i : ℕ) (stage : PlainState) (team : List Acting) (entries : List Entry) (asks : ℕ) : Type 0 where
+pub record IsAhead (workers : ℕ) (w : Parts) (refused turns : List ℕ) (i : ℕ) (state : PlainState) (team : List Acting) (entries : List Entry) (asks : ℕ) : Type 0 where
   pub run : SoFar
-  pub has : HasRun workers run stage team entries asks
-  pub wiring : stage.wiring ≡ w
+  pub has : HasRun workers run state team entries asks
+  pub wiring : state.wiring ≡ w
   pub few : asks ≤ i
   pub ahead : (turned_from w refused run (drop i turns)).entries ≡ run_shortened w refused turns
 
@@ -300,11 +296,11 @@ pub turned_on : (w : Parts) (refused turns : List ℕ) (i : ℕ) (run : SoFar) �
 turned_on w refused turns i run low = ap (turned_from w refused run) (sym (drop_here turns i low))
 
 -- one turn more
-pub ahead_on : (workers : ℕ) (w : Parts) (refused turns : List ℕ) (i : ℕ) (stage : PlainState) (team : List Acting) (entries : List Entry) (asks : ℕ) (later : PlainState) (after : List Acting) (more : List Entry) (number : ℕ)
-    → IsAhead workers w refused turns i stage team entries asks → i < length turns → later.wiring ≡ stage.wiring → number ≤ asks + 1
-    → ((lacks : Lacks) → IsPlayed workers lacks stage team entries → HasRun workers (turned stage.wiring refused (record { lacks = lacks; asks = asks; entries = entries }) (get_or turns i 0)) later after more number)
+pub ahead_on : (workers : ℕ) (w : Parts) (refused turns : List ℕ) (i : ℕ) (state : PlainState) (team : List Acting) (entries : List Entry) (asks : ℕ) (later : PlainState) (after : List Acting) (more : List Entry) (number : ℕ)
+    → IsAhead workers w refused turns i state team entries asks → i < length turns → later.wiring ≡ state.wiring → number ≤ asks + 1
+    → ((lacks : Lacks) → IsPlayed workers lacks state team entries → HasRun workers (turned state.wiring refused (record { lacks = lacks; asks = asks; entries = entries }) (get_or turns i 0)) later after more number)
     → IsAhead workers w refused turns (i + 1) later after more number
-ahead_on workers w refused turns i stage team entries asks later after more number ahead low wiring few next =
+ahead_on workers w refused turns i state team entries asks later after more number ahead low wiring few next =
     let run = ahead.run in
     let P : Parts → ℕ → List Entry → Type 0 = λ x n es. HasRun workers (turned x refused (record { lacks = ahead.run.lacks; asks = n; entries = es }) (get_or turns i 0)) later after more number in
     let before = ahead.few in
@@ -316,13 +312,13 @@ ahead_on workers w refused turns i stage team entries asks later after more numb
       ahead = ap (λ (r : SoFar). r.entries) (turned_on w refused turns i run low) ∙ ahead.ahead;
     }
 
-module _ (workers : ℕ) (w : Parts) (refused turns : List ℕ) (i : ℕ) (stage : PlainState) (team : List Acting) (entries : List Entry) (asks : ℕ) (ahead : IsAhead workers w refused turns i stage team entries asks) where
+module _ (workers : ℕ) (w : Parts) (refused turns : List ℕ) (i : ℕ) (state : PlainState) (team : List Acting) (entries : List Entry) (asks : ℕ) (ahead : IsAhead workers w refused turns i state team entries asks) where
   -- the end of the turns
   pub ahead_ends : drop i turns ≡ [] → entries ≡ run_shortened w refused turns
   ahead_ends none = ahead.has.same ∙ ap (λ (ts : List ℕ). (turned_from w refused ahead.run ts).entries) (sym none) ∙ ahead.ahead
 
   pub ahead_run : workers ≤ 16 → IsRun w workers entries
-  ahead_run few = record { lacks = ahead.run.lacks; steps = subst (λ (x : Parts). IsRunAfter x workers ahead.run.lacks [] entries) ahead.wiring (played_run workers ahead.run.lacks stage team entries few ahead.has.played) }
+  ahead_run few = record { lacks = ahead.run.lacks; steps = subst (λ (x : Parts). IsRunAfter x workers ahead.run.lacks [] entries) ahead.wiring (played_run workers ahead.run.lacks state team entries few ahead.has.played) }
 
 -- a run so far in which no actor lacks memory
 abbrev pub unrefused : ℕ → List Entry → SoFar

@@ -11,7 +11,7 @@ use Rattle.ccr_object.specs.declared.deed.PlaceAnswer.TheVariants.{Replied}
 use Rattle.ccr_object.specs.declared.deed.Deed.{Deed}
 use Rattle.ccr_object.specs.declared.object.Placed.{Placed}
 use Rattle.ccr_object.specs.Keeping.{answers_known, keeps_own}
-use Rattle.ccr_object.specs.Numbers.{Known, names_known, no_numbers, numbers_of}
+use Rattle.ccr_object.specs.Numbers.{Numbers, names_known, no_numbers, numbers_of}
 use Rattle.ccr_object.specs.Objects.{after_deed, nothing, reply_of}
 use Rattle.ccr_object.specs.Starts.{placed_at, places_of}
 use Rattle.ccr_object.proofs.PlacesKeepKnownNames.{place_keeps, place_named, start_keeps}
@@ -44,7 +44,7 @@ own_from : (w : Parts) (v : Scene Placed) (acts : List (Act Deed)) → ((number 
 own_from w v [] own number = own number
 own_from w v (act ∷ acts) own number = own_from w (moved after_deed v act) acts (own_moved w v act own) number
 
-named_by : (w : Parts) (known : Known) (reply : Reply) → (known ≡ numbers_of w) ⊎ (known ≡ no_numbers) → names_known known reply ≡ true → IsReplyOf w reply
+named_by : (w : Parts) (known : Numbers) (reply : Reply) → (known ≡ numbers_of w) ⊎ (known ≡ no_numbers) → names_known known reply ≡ true → IsReplyOf w reply
 named_by w known reply (inl all) is = reply_to w reply (subst (λ k. names_known k reply ≡ true) all is)
 named_by w known reply (inr none) is = reply_none w reply (subst (λ k. names_known k reply ≡ true) none is)
 

@@ -298,7 +298,7 @@ free_so ask reply owed len capacity mid_len mid new_len new extra left fit withi
 
 -- what of the net contracts see
 abbrev pub seen : PlainState → List Entry → Served
-seen stage entries = record { wiring = stage.wiring; acts = stage.acts; entries = entries }
+seen state entries = record { wiring = state.wiring; acts = state.acts; entries = entries }
 
 -- one call of the net: what it began with, what it made room for, and what it did
 pub record Acts (old : PlainState) (es : List Entry) (room owed count : ℕ) (k : ℕ) (one : Asked) : Type 0 where
@@ -374,17 +374,17 @@ module _ (old : PlainState) (es : List Entry) (room owed count k : ℕ) (one : A
         }))
 
 -- the start
-pub roomy_start : (stage : PlainState) (es : List Entry) (room count : ℕ) → IsValid stage.wiring → stage.acts ≡ [] → es ≡ [] → count ≡ seats stage.wiring → IsRoomy stage es room 0 count
-roomy_start stage es room count valid none empty all =
-    let P : List (Act Deed) → Type 0 = λ done. IsRoomy (record { wiring = stage.wiring; acts = done; room = stage.room }) es room 0 count in
+pub roomy_start : (state : PlainState) (es : List Entry) (room count : ℕ) → IsValid state.wiring → state.acts ≡ [] → es ≡ [] → count ≡ seats state.wiring → IsRoomy state es room 0 count
+roomy_start state es room count valid none empty all =
+    let P : List (Act Deed) → Type 0 = λ done. IsRoomy (record { wiring = state.wiring; acts = done; room = state.room }) es room 0 count in
     subst P (sym none) (record {
-      serving = serving_start stage.wiring valid;
+      serving = serving_start state.wiring valid;
       same = empty;
-      owes = sym (owed_none stage.wiring);
+      owes = sym (owed_none state.wiring);
       acts_room = omega arith;
       entries_room = omega arith;
       seated = all;
     })
 
-pub roomy_run : (stage : PlainState) (es : List Entry) (room owed count : ℕ) → IsRoomy stage es room owed count → IsRun stage.wiring 16 es
-roomy_run stage es room owed count roomy = subst (IsRun stage.wiring 16) (sym roomy.same) (serving_run stage.wiring stage.acts roomy.serving)
+pub roomy_run : (state : PlainState) (es : List Entry) (room owed count : ℕ) → IsRoomy state es room owed count → IsRun state.wiring 16 es
+roomy_run state es room owed count roomy = subst (IsRun state.wiring 16) (sym roomy.same) (serving_run state.wiring state.acts roomy.serving)

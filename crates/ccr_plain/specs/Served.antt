@@ -43,10 +43,10 @@ pub record IsServing (wiring : Parts) (acts : List (Act Deed)) : Type 0 where
   pub others : (actor : ℕ) → seats wiring ≤ actor → steps_in wiring acts actor ≡ []
 
 -- the entries are those of the acts, there is room for all that is owed, and so many actors are served
-pub record IsRoomy (stage : PlainState) (entries : List Entry) (room owed count : ℕ) : Type 0 where
-  pub serving : IsServing stage.wiring stage.acts
-  pub same : entries ≡ entries_of stage.wiring stage.acts
-  pub owes : owed ≡ owed_to stage.wiring stage.acts (seats stage.wiring)
-  pub acts_room : owed ≤ stage.room
+pub record IsRoomy (state : PlainState) (entries : List Entry) (room owed count : ℕ) : Type 0 where
+  pub serving : IsServing state.wiring state.acts
+  pub same : entries ≡ entries_of state.wiring state.acts
+  pub owes : owed ≡ owed_to state.wiring state.acts (seats state.wiring)
+  pub acts_room : owed ≤ state.room
   pub entries_room : owed ≤ room
-  pub seated : count ≡ seats stage.wiring
+  pub seated : count ≡ seats state.wiring

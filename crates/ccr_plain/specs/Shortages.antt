@@ -61,27 +61,27 @@ shortened wiring refused turns = (turned_from wiring refused nothing_yet turns).
 
 -- the places and the actors have played a run, whoever of them lacks memory
 abbrev pub HasPlayed : ℕ → PlainState → List Acting → List Entry → Type 0
-HasPlayed workers stage actors entries = (lacks : Lacks) × IsPlayed workers lacks stage actors entries
+HasPlayed workers state actors entries = (lacks : Lacks) × IsPlayed workers lacks state actors entries
 
 -- they have played this run
-pub record HasRun (workers : ℕ) (run : SoFar) (stage : PlainState) (actors : List Acting) (entries : List Entry) (asks : ℕ) : Type 0 where
-  pub played : IsPlayed workers run.lacks stage actors entries
+pub record HasRun (workers : ℕ) (run : SoFar) (state : PlainState) (actors : List Acting) (entries : List Entry) (asks : ℕ) : Type 0 where
+  pub played : IsPlayed workers run.lacks state actors entries
   pub number : asks ≡ run.asks
   pub same : entries ≡ run.entries
 
 -- whoever lacked memory before, after the turn they have played the run that the turn makes, and so many asks that don't settle were made
 abbrev pub HasTurned : ℕ → List ℕ → ℕ → ℕ → PlainState → List Acting → List Entry → PlainState → List Acting → List Entry → ℕ → Type 0
-HasTurned workers refused turn asks stage actors entries later after more number =
-    (lacks : Lacks) → IsPlayed workers lacks stage actors entries → HasRun workers (turned stage.wiring refused (record { lacks = lacks; asks = asks; entries = entries }) turn) later after more number
+HasTurned workers refused turn asks state actors entries later after more number =
+    (lacks : Lacks) → IsPlayed workers lacks state actors entries → HasRun workers (turned state.wiring refused (record { lacks = lacks; asks = asks; entries = entries }) turn) later after more number
 
 -- what becomes of an ask, by whether it settles and whether its number is refused
 abbrev pub IsTaken : Bool → Bool → Asked → ℕ → PlainState → Acting → List Entry → PlainState → Acting → List Entry → ℕ → Type 0
-IsTaken true refused one asks stage a entries later b more number = IsAnswered stage (sent a) entries one.place one.ask later b more × (number ≡ asks)
-IsTaken false true one asks stage a entries later b more number = (b ≡ left_short (sent a)) × ((later ≡ stage) × ((more ≡ entries) × (number ≡ asks + 1)))
-IsTaken false false one asks stage a entries later b more number = IsAnswered stage (sent a) entries one.place one.ask later b more × (number ≡ asks + 1)
+IsTaken true refused one asks state a entries later b more number = IsAnswered state (sent a) entries one.place one.ask later b more × (number ≡ asks)
+IsTaken false true one asks state a entries later b more number = (b ≡ left_short (sent a)) × ((later ≡ state) × ((more ≡ entries) × (number ≡ asks + 1)))
+IsTaken false false one asks state a entries later b more number = IsAnswered state (sent a) entries one.place one.ask later b more × (number ≡ asks + 1)
 
 -- the actor's next ask is made or refused
-pub record IsTurn (refused : List ℕ) (asks : ℕ) (stage : PlainState) (a : Acting) (entries : List Entry) (later : PlainState) (b : Acting) (more : List Entry) (number : ℕ) : Type 0 where
+pub record IsTurn (refused : List ℕ) (asks : ℕ) (state : PlainState) (a : Acting) (entries : List Entry) (later : PlainState) (b : Acting) (more : List Entry) (number : ℕ) : Type 0 where
   pub one : Asked
   pub is : asks_next a ≡ Some one
-  pub taken : IsTaken (is_settling one.ask) (has_number refused asks) one asks stage a entries later b more number
+  pub taken : IsTaken (is_settling one.ask) (has_number refused asks) one asks state a entries later b more number

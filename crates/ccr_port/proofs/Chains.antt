@@ -392,11 +392,11 @@ keys-are f (suc n) p [] is long = absurd (omega arith)
 keys-are f zero p (k ∷ ks) is long = absurd (omega arith)
 keys-are f (suc n) p (k ∷ ks) is long = rw is.0 (ap (λ l. k ∷ l) (keys-are f n (Some k) ks is.1 (omega arith)))
 
--- what stands behind a key, by its place
-pub behind-place : (f : Option ℕ → Option ℕ) (key place : ℕ) (p : Option ℕ) (ks : List ℕ) → IsPath f p ks → slice_get ks place ≡ Some key → f (Some key) ≡ slice_get ks (place + 1)
-behind-place f key place p [] is at = absurd (cc)
-behind-place f key zero p (k ∷ ks) is at = let same : k ≡ key = cc in rw (← same) (path-head f (Some k) ks is.1)
-behind-place f key (suc place) p (k ∷ ks) is at = behind-place f key place (Some k) ks is.1 at ∙ one_more ks place
+-- what stands behind a key, by its index
+pub behind-index : (f : Option ℕ → Option ℕ) (key index : ℕ) (p : Option ℕ) (ks : List ℕ) → IsPath f p ks → slice_get ks index ≡ Some key → f (Some key) ≡ slice_get ks (index + 1)
+behind-index f key index p [] is at = absurd (cc)
+behind-index f key zero p (k ∷ ks) is at = let same : k ≡ key = cc in rw (← same) (path-head f (Some k) ks is.1)
+behind-index f key (suc index) p (k ∷ ks) is at = behind-index f key index (Some k) ks is.1 at ∙ one_more ks index
   where
     one_more : (xs : List ℕ) (n : ℕ) → slice_get xs (n + 1) ≡ slice_get (k ∷ xs) (suc n + 1)
     one_more xs n = grind (arith, common_steps)

@@ -11,7 +11,7 @@ use Rattle.ccr_port.specs.declared.links.Link.{Link}
 use Rattle.ccr_port.specs.declared.items.LinkedMessage.{LinkedMessage}
 use Rattle.ccr_port.specs.Chains.{behind_of, before_of, has_key, without_key, IsChain, same_point, mended}
 use Rattle.ccr_port.specs.Entries.{keys_of, message_under, without_entry, link_at, message_at, is_kept, are_kept, entries_at, linked_keys, AreLinked}
-use Rattle.ccr_port.proofs.Chains.{both, neither, has-rest, keys-are, behind-place, all-without, end-holds, key-holds, behind_key-holds, before_key-holds, length-without_key, gone-without, chain-gone}
+use Rattle.ccr_port.proofs.Chains.{both, neither, has-rest, keys-are, behind-index, all-without, end-holds, key-holds, behind_key-holds, before_key-holds, length-without_key, gone-without, chain-gone}
 use Rattle.ccr_port.proofs.Linking.{chain-appended, chain-unlinked}
 
 -- ---- the messages of the keys
@@ -168,12 +168,12 @@ module _ (slab : Slab LinkedMessage) (first last : Option ℕ) (count : ℕ) (is
     at : link_at slab key ≡ Some entry.link
     at = ap (λ o. option_map (λ (e : LinkedMessage). e.link) o) read
 
-    pub item-behind : (place : ℕ) → slice_get (keys_of (entries_at slab ks)) place ≡ Some key → entry.link.behind ≡ slice_get (keys_of (entries_at slab ks)) (place + 1)
-    item-behind place stands =
+    pub item-behind : (index : ℕ) → slice_get (keys_of (entries_at slab ks)) index ≡ Some key → entry.link.behind ≡ slice_get (keys_of (entries_at slab ks)) (index + 1)
+    item-behind index stands =
         let same = keys-entries slab ks is.kept in
         ap (λ l. option_and_then (λ (x : Link). x.behind) l) (sym at)
-        ∙ behind-place (behind_of (link_at slab) first) key place None ks is.chain.path (sym (ap (λ l. slice_get l place) same) ∙ stands)
-        ∙ ap (λ l. slice_get l (place + 1)) (sym same)
+        ∙ behind-index (behind_of (link_at slab) first) key index None ks is.chain.path (sym (ap (λ l. slice_get l index) same) ∙ stands)
+        ∙ ap (λ l. slice_get l (index + 1)) (sym same)
 
     pub before-kept : is_kept slab entry.link.before ≡ true
     before-kept =

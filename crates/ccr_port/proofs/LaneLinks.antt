@@ -13,7 +13,7 @@ use Rattle.ccr_base.proofs.Lists.{all_more}
 use Rattle.ccr_port.specs.declared.links.Link.{Link}
 use Rattle.ccr_port.specs.Chains.{behind_of, before_of, has_key, without_key, IsChain, mended}
 use Rattle.ccr_port.specs.Lanes.{is_below, lane_keys, IsLinkedLane, LaneState, can_enter}
-use Rattle.ccr_port.proofs.Chains.{both, keys-are, behind-place, all-without, end-holds, key-holds, behind_key-holds, before_key-holds, length-without_key, chain-same}
+use Rattle.ccr_port.proofs.Chains.{both, keys-are, behind-index, all-without, end-holds, key-holds, behind_key-holds, before_key-holds, length-without_key, chain-same}
 use Rattle.ccr_port.proofs.Linking.{chain-appended, chain-unlinked}
 
 slice_get-at : {X : Type 0} (xs : List X) (k : ℕ) (x : X) → k < length xs → x ≡ get_or xs k x → slice_get xs k ≡ Some x
@@ -53,10 +53,10 @@ module _ (links : List Link) (first last : Option ℕ) (count : ℕ) (is : IsLin
       at : slice_get links key ≡ Some link
       at = slice_get-at links key link key-below read
 
-      pub lane-behind : (place : ℕ) → slice_get (lane_keys links first count) place ≡ Some key → link.behind ≡ slice_get (lane_keys links first count) (place + 1)
-      lane-behind place stands =
+      pub lane-behind : (index : ℕ) → slice_get (lane_keys links first count) index ≡ Some key → link.behind ≡ slice_get (lane_keys links first count) (index + 1)
+      lane-behind index stands =
           ap (λ l. option_and_then (λ (x : Link). x.behind) l) (sym at)
-          ∙ behind-place (behind_of (slice_get links) first) key place None (lane_keys links first count) is.chain.path stands
+          ∙ behind-index (behind_of (slice_get links) first) key index None (lane_keys links first count) is.chain.path stands
 
       pub before-below : is_below (length links) link.before ≡ true
       before-below =

@@ -4,7 +4,7 @@ use Rattle.std.specs.Prelude.{if◌then◌else◌, nat_lt}
 use Rattle.std.specs.List.{slice_get, list_all}
 use Rattle.std.proofs.Math.ListN.{set, get_or}
 use Rattle.std.specs.Bool.{Decides}
-use Rattle.std.proofs.lemmas.Option.{get_or_from_slice_get}
+use Rattle.std.proofs.lemmas.Option.{get_or_from_slice_get, same_Some}
 use Rattle.std.proofs.lemmas.List.{take_more_set, drop_more}
 use Rattle.std.proofs.lemmas.Grind.{common_steps}
 use Rattle.std.proofs.lemmas.Bool.Decides.{nat_tests}
@@ -12,7 +12,7 @@ use Rattle.std.proofs.lemmas.Bool.{lt-ltb}
 use Rattle.std.proofs.Math.Bool.{or-true}
 use Rattle.ccr_base.specs.declared.messages.Msg.{Msg}
 use Rattle.ccr_base.specs.declared.patterns.Pred.{Pred}
-use Rattle.ccr_base.specs.Choice.{holds}
+use Rattle.ccr_base.specs.Selection.{holds}
 use Rattle.ccr_base.specs.Lists.{are_apart}
 use Rattle.ccr_port.specs.Chains.{has_key, without_key}
 use Rattle.ccr_port.specs.Entries.{keys_of, message_under, without_entry, without_entries, can_take}
@@ -97,9 +97,6 @@ entered-all es key message (lane ∷ lanes) are = (lane-entered es key message l
 
 -- ---- a message goes
 
-some_same : (m n : Msg) → Some m ≡ Some n → m ≡ n
-some_same m n is = cc
-
 fits-has : (pred : Pred) (key : ℕ) (message : Msg) (es : List (ℕ × Msg)) → message_under key es ≡ Some message → holds pred message.value ≡ true → has_key key (fitting_keys pred es) ≡ true
 fits-has pred key message [] at holding = absurd (cc)
 fits-has pred key message (e ∷ es) at holding = of_tests (e.0 == key) (holds pred e.1.value) refl refl (λ later. fits-has pred key message es later holding)
@@ -108,7 +105,7 @@ fits-has pred key message (e ∷ es) at holding = of_tests (e.0 == key) (holds p
     of_tests true true here fits rest = ap (λ b. b || has_key key (fitting_keys pred es)) here
     of_tests true false here fits rest =
         let found : Some e.1 ≡ Some message = sym (ap (λ b. if b then Some e.1 else message_under key es) here) ∙ at in
-        let same = some_same e.1 message found in
+        let same = same_Some e.1 message found in
         let wrong : holds pred e.1.value ≡ true = ap (λ (m : Msg). holds pred m.value) same ∙ holding in
         absurd (cc)
     of_tests false true here fits rest = ap (λ b. (e.0 == key) || b) (rest (sym (ap (λ b. if b then Some e.1 else message_under key es) here) ∙ at)) ∙ or-true (e.0 == key)
@@ -131,7 +128,7 @@ fits-left pred key message (e ∷ es) at = of_tests (e.0 == key) (holds pred e.1
         → fitting_keys pred (if b then es else e ∷ without_entry key es) ≡ (if holds pred message.value then without_key key (if c then e.0 ∷ fitting_keys pred es else fitting_keys pred es) else (if c then e.0 ∷ fitting_keys pred es else fitting_keys pred es))
     of_tests true c here fits rest =
         let found : Some e.1 ≡ Some message = sym (ap (λ b. if b then Some e.1 else message_under key es) here) ∙ at in
-        let same = some_same e.1 message found in
+        let same = same_Some e.1 message found in
         let fits_too : holds pred message.value ≡ c = ap (λ (m : Msg). holds pred m.value) (sym same) ∙ fits in
         sym (by_fit c) ∙ ap (λ b. if b then without_key key (if c then e.0 ∷ fitting_keys pred es else fitting_keys pred es) else (if c then e.0 ∷ fitting_keys pred es else fitting_keys pred es)) (sym fits_too)
       where
@@ -195,23 +192,23 @@ length-take_at_most zero (x ∷ xs) = omega arith
 length-take_at_most (suc n) [] = omega arith
 length-take_at_most (suc n) (x ∷ xs) = omega (arith, length-take_at_most n xs)
 
-module _ (es : List (ℕ × Msg)) (place key : ℕ) (stand : Stands es place key) (apart : are_apart (keys_of es) ≡ true) (lane : LaneState) where
-  pub can-enter-next : (pred : Pred) → lane.pred ≡ pred → lane.keys ≡ fitting_keys pred (take place es) → key < lane.room → place + 1 < 2 ^ 32 → can_enter key lane ≡ true
+module _ (es : List (ℕ × Msg)) (index key : ℕ) (stand : Stands es index key) (apart : are_apart (keys_of es) ≡ true) (lane : LaneState) where
+  pub can-enter-next : (pred : Pred) → lane.pred ≡ pred → lane.keys ≡ fitting_keys pred (take index es) → key < lane.room → index + 1 < 2 ^ 32 → can_enter key lane ≡ true
   can-enter-next pred same keys room few =
-      let short : length (take place es) + 1 < 2 ^ 32 = omega (arith, length-take_at_most place es) in
+      let short : length (take index es) + 1 < 2 ^ 32 = omega (arith, length-take_at_most index es) in
       let roomy : have_room key (lane ∷ []) ≡ true = ap (λ b. b && true) (lt-ltb key lane.room room) in
-      (both (can_enter key lane) true (can-enter-all (take place es) key (stand.before apart) short (lane ∷ []) (keys ∙ ap (λ p. fitting_keys p (take place es)) (sym same), tt) roomy)).0
+      (both (can_enter key lane) true (can-enter-all (take index es) key (stand.before apart) short (lane ∷ []) (keys ∙ ap (λ p. fitting_keys p (take index es)) (sym same), tt) roomy)).0
 
-  pub lane-next : (pred : Pred) (new : LaneState) (message : Msg) → message_under key es ≡ Some message → lane.pred ≡ pred → lane.keys ≡ fitting_keys pred (take place es) → new ≡ entered key message.value lane
-      → (new.pred ≡ pred) × (new.keys ≡ fitting_keys pred (take (place + 1) es))
+  pub lane-next : (pred : Pred) (new : LaneState) (message : Msg) → message_under key es ≡ Some message → lane.pred ≡ pred → lane.keys ≡ fitting_keys pred (take index es) → new ≡ entered key message.value lane
+      → (new.pred ≡ pred) × (new.keys ≡ fitting_keys pred (take (index + 1) es))
   lane-next pred new message found same keys is =
-      let one = some_same message stand.message (sym found ∙ stand.under apart) in
+      let one = same_Some message stand.message (sym found ∙ stand.under apart) in
       let pred_is : new.pred ≡ pred = ap (λ (l : LaneState). l.pred) is ∙ entered-pred key message.value lane ∙ same in
-      let more : take (place + 1) es ≡ take place es ++ (key, message) ∷ [] = rw add-one (stand.front ∙ ap (λ m. take place es ++ (key, m) ∷ []) (sym one)) in (
+      let more : take (index + 1) es ≡ take index es ++ (key, message) ∷ [] = rw add-one (stand.front ∙ ap (λ m. take index es ++ (key, m) ∷ []) (sym one)) in (
         pred_is,
         ap (λ (l : LaneState). l.keys) is
-            ∙ lane-entered (take place es) key message lane (keys ∙ ap (λ p. fitting_keys p (take place es)) (sym same))
-            ∙ ap (λ p. fitting_keys p (take place es ++ (key, message) ∷ [])) (entered-pred key message.value lane ∙ same)
+            ∙ lane-entered (take index es) key message lane (keys ∙ ap (λ p. fitting_keys p (take index es)) (sym same))
+            ∙ ap (λ p. fitting_keys p (take index es ++ (key, message) ∷ [])) (entered-pred key message.value lane ∙ same)
             ∙ ap (fitting_keys pred) (sym more),
       )
 

@@ -9,7 +9,7 @@ use Rattle.std.proofs.Math.Bool.{or-true}
 use Rattle.std.proofs.lemmas.Option.{same_Some}
 use Rattle.ccr_base.specs.declared.messages.Msg.{Msg}
 use Rattle.ccr_base.specs.declared.patterns.Pred.{Pred}
-use Rattle.ccr_base.specs.Choice.{holds, fitting}
+use Rattle.ccr_base.specs.Selection.{holds, fitting}
 use Rattle.ccr_base.proofs.Booleans.{eq_turned, not_true, eq-self, same_number}
 use Rattle.ccr_base.specs.Lists.{are_apart}
 use Rattle.ccr_places.specs.Ports.{without_first}
@@ -119,7 +119,7 @@ module _ (e : ℕ × Msg) where
       ap (λ b. without_entries ks (if b then es else e ∷ without_entry k es)) (eq_turned k e.0 parts.0)
       ∙ without-off (without_entry k es) ks parts.1
 
--- ---- the choice, by its keys
+-- ---- the selection, by its keys
 
 without_none : (pred : Pred) (ms : List Msg) → without_first 0 pred ms ≡ ms
 without_none pred [] = refl
@@ -130,7 +130,7 @@ without_none pred (m ∷ ms) = of_test (holds pred m.value) (without_none pred m
     of_test false rest = ap (λ l. m ∷ l) rest
 
 -- what the keys of the first messages that satisfy a predicate tell
-pub record IsChoice (pred : Pred) (n : ℕ) (es : List (ℕ × Msg)) : Type 0 where
+pub record IsSelection (pred : Pred) (n : ℕ) (es : List (ℕ × Msg)) : Type 0 where
   pub there : are_under (take n (fitting_keys pred es)) es ≡ true
   pub messages : messages_under (take n (fitting_keys pred es)) es ≡ take n (fitting pred (messages_of es))
   pub can_go : can_take (take n (fitting_keys pred es)) es ≡ true
@@ -140,7 +140,7 @@ take_none : {X : Type 0} (xs : List X) → take 0 xs ≡ []
 take_none [] = refl
 take_none (x ∷ xs) = refl
 
-none_chosen : (pred : Pred) (es : List (ℕ × Msg)) → IsChoice pred 0 es
+none_chosen : (pred : Pred) (es : List (ℕ × Msg)) → IsSelection pred 0 es
 none_chosen pred es =
     let none = take_none (fitting_keys pred es) in
     record {
@@ -150,10 +150,10 @@ none_chosen pred es =
       rest = ap (λ ks. messages_of (without_entries ks es)) none ∙ sym (without_none pred (messages_of es));
     }
 
-pub is_choice : (pred : Pred) (n : ℕ) (es : List (ℕ × Msg)) → are_apart (keys_of es) ≡ true → IsChoice pred n es
-is_choice pred zero es apart = none_chosen pred es
-is_choice pred (suc n) [] apart = record { there = refl; messages = refl; can_go = refl; rest = refl }
-is_choice pred (suc n) (e ∷ es) apart = of_test (holds pred e.1.value) refl (is_choice pred n es parts.1) (is_choice pred (suc n) es parts.1)
+pub is_selection : (pred : Pred) (n : ℕ) (es : List (ℕ × Msg)) → are_apart (keys_of es) ≡ true → IsSelection pred n es
+is_selection pred zero es apart = none_chosen pred es
+is_selection pred (suc n) [] apart = record { there = refl; messages = refl; can_go = refl; rest = refl }
+is_selection pred (suc n) (e ∷ es) apart = of_test (holds pred e.1.value) refl (is_selection pred n es parts.1) (is_selection pred (suc n) es parts.1)
   where
     parts : (not (has_key e.0 (keys_of es)) ≡ true) × (are_apart (keys_of es) ≡ true)
     parts = both _ _ apart
@@ -161,7 +161,7 @@ is_choice pred (suc n) (e ∷ es) apart = of_test (holds pred e.1.value) refl (i
     out : (m : ℕ) → has_key e.0 (take m (fitting_keys pred es)) ≡ false
     out m = has-take e.0 m (fitting_keys pred es) (fits-absent pred e.0 es (not_true _ parts.0))
 
-    of_test : (b : Bool) → holds pred e.1.value ≡ b → IsChoice pred n es → IsChoice pred (suc n) es → IsChoice pred (suc n) (e ∷ es)
+    of_test : (b : Bool) → holds pred e.1.value ≡ b → IsSelection pred n es → IsSelection pred (suc n) es → IsSelection pred (suc n) (e ∷ es)
     of_test true is fewer same = record {
       there = rw (is, eq-self e.0) (are_under-off e es _ (out n) ∙ fewer.there);
       messages = rw (is, eq-self e.0) (ap (λ l. e.1 ∷ l) (under-off e es _ (out n) ∙ fewer.messages));
@@ -178,19 +178,19 @@ is_choice pred (suc n) (e ∷ es) apart = of_test (holds pred e.1.value) refl (i
       rest = rw is (ap messages_of (without-off e es _ (out (suc n))) ∙ ap (λ l. e.1 ∷ l) same.rest);
     }
 
--- ---- the message at a place
+-- ---- the message at an index
 
--- the message at the place, whose key is this
-pub record Stands (es : List (ℕ × Msg)) (place key : ℕ) : Type 0 where
+-- the message at the index, whose key is this
+pub record Stands (es : List (ℕ × Msg)) (index key : ℕ) : Type 0 where
   pub message : Msg
-  pub front : take (suc place) es ≡ take place es ++ (key, message) ∷ []
-  pub at : slice_get (messages_of es) place ≡ Some message
+  pub front : take (suc index) es ≡ take index es ++ (key, message) ∷ []
+  pub at : slice_get (messages_of es) index ≡ Some message
   pub has : has_key key (keys_of es) ≡ true
   pub under : are_apart (keys_of es) ≡ true → message_under key es ≡ Some message
-  pub before : are_apart (keys_of es) ≡ true → has_key key (keys_of (take place es)) ≡ false
+  pub before : are_apart (keys_of es) ≡ true → has_key key (keys_of (take index es)) ≡ false
 
-pub stands : (es : List (ℕ × Msg)) (place key : ℕ) → slice_get (keys_of es) place ≡ Some key → Stands es place key
-stands [] place key is = absurd (cc)
+pub stands : (es : List (ℕ × Msg)) (index key : ℕ) → slice_get (keys_of es) index ≡ Some key → Stands es index key
+stands [] index key is = absurd (cc)
 stands (e ∷ es) zero key is = from_key (same_Some _ _ is)
   where
     take_none : take 0 (e ∷ es) ≡ []
@@ -209,16 +209,16 @@ stands (e ∷ es) zero key is = from_key (same_Some _ _ is)
       under = λ apart. ap (λ b. if b then Some e.1 else message_under key es) (ap (λ n. n == key) same ∙ eq-self key);
       before = λ apart. refl;
     }
-stands (e ∷ es) (suc place) key is = later (stands es place key is)
+stands (e ∷ es) (suc index) key is = later (stands es index key is)
   where
-    later : Stands es place key → Stands (e ∷ es) (suc place) key
+    later : Stands es index key → Stands (e ∷ es) (suc index) key
     later rest = record {
       message = rest.message;
       front = ap (λ l. e ∷ l) rest.front;
       at = rest.at;
       has = ap (λ b. (e.0 == key) || b) rest.has ∙ or-true (e.0 == key);
       under = λ apart. ap (λ b. if b then Some e.1 else message_under key es) (other apart) ∙ rest.under (tails apart);
-      before = λ apart. ap (λ b. b || has_key key (keys_of (take place es))) (other apart) ∙ rest.before (tails apart);
+      before = λ apart. ap (λ b. b || has_key key (keys_of (take index es))) (other apart) ∙ rest.before (tails apart);
     }
       where
         tails : are_apart (keys_of (e ∷ es)) ≡ true → are_apart (keys_of es) ≡ true
@@ -235,31 +235,22 @@ pub keys-long : (es : List (ℕ × Msg)) → length (keys_of es) ≡ length es
 keys-long [] = refl
 keys-long (e ∷ es) = ap suc (keys-long es)
 
-pub some_at : (ks : List ℕ) (place : ℕ) → place < length ks → slice_get ks place ≡ None → ⊥
-some_at [] place low none = omega arith
+pub some_at : (ks : List ℕ) (index : ℕ) → index < length ks → slice_get ks index ≡ None → ⊥
+some_at [] index low none = omega arith
 some_at (k ∷ ks) zero low none = cc
-some_at (k ∷ ks) (suc place) low none = some_at ks place (omega arith) none
+some_at (k ∷ ks) (suc index) low none = some_at ks index (omega arith) none
 
-pub has-at : (ks : List ℕ) (place key : ℕ) → slice_get ks place ≡ Some key → has_key key ks ≡ true
-has-at [] place key is = absurd (cc)
+pub has-at : (ks : List ℕ) (index key : ℕ) → slice_get ks index ≡ Some key → has_key key ks ≡ true
+has-at [] index key is = absurd (cc)
 has-at (k ∷ ks) zero key is = let same : k ≡ key = cc in ap (λ b. b || has_key key ks) (ap (λ n. n == key) same ∙ eq-self key)
-has-at (k ∷ ks) (suc place) key is = ap (λ b. (k == key) || b) (has-at ks place key is) ∙ or-true (k == key)
+has-at (k ∷ ks) (suc index) key is = ap (λ b. (k == key) || b) (has-at ks index key is) ∙ or-true (k == key)
 
-pub take-at : (ks : List ℕ) (place key : ℕ) → slice_get ks place ≡ Some key → take (suc place) ks ≡ take place ks ++ key ∷ []
-take-at [] place key is = absurd (cc)
-take-at (k ∷ ks) zero key is = let same : k ≡ key = cc in one ks ∙ ap (λ n. n ∷ []) same
-  where
-    one : (xs : List ℕ) → take 1 (k ∷ xs) ≡ k ∷ []
-    one [] = refl
-    one (x ∷ xs) = refl
-take-at (k ∷ ks) (suc place) key is = ap (λ l. k ∷ l) (take-at ks place key is)
-
-pub under-at : (ks : List ℕ) (es : List (ℕ × Msg)) (place key : ℕ) → are_under ks es ≡ true → place < length ks → key ≡ get_or ks place 0 → has_key key (keys_of es) ≡ true
-under-at [] es place key under low is = absurd (omega arith)
+pub under-at : (ks : List ℕ) (es : List (ℕ × Msg)) (index key : ℕ) → are_under ks es ≡ true → index < length ks → key ≡ get_or ks index 0 → has_key key (keys_of es) ≡ true
+under-at [] es index key under low is = absurd (omega arith)
 under-at (k ∷ ks) es zero key under low is = rw is (both _ _ under).0
-under-at (k ∷ ks) es (suc place) key under low is = under-at ks es place key (both _ _ under).1 (omega arith) is
+under-at (k ∷ ks) es (suc index) key under low is = under-at ks es index key (both _ _ under).1 (omega arith) is
 
-pub none_past : (es : List (ℕ × Msg)) (place : ℕ) → length es ≤ place → None ≡ slice_get (messages_of es) place
-none_past [] place past = refl
+pub none_past : (es : List (ℕ × Msg)) (index : ℕ) → length es ≤ index → None ≡ slice_get (messages_of es) index
+none_past [] index past = refl
 none_past (e ∷ es) zero past = absurd (omega arith)
-none_past (e ∷ es) (suc place) past = none_past es place (omega arith)
+none_past (e ∷ es) (suc index) past = none_past es index (omega arith)

@@ -10,7 +10,7 @@ use Rattle.std.proofs.lemmas.List.Sums.{list_all-from_AllPass, AllPass-from_list
 use Rattle.ccr_base.specs.declared.names.TaskId.{TaskId}
 use Rattle.ccr_base.specs.declared.messages.Msg.{Msg}
 use Rattle.ccr_base.specs.declared.patterns.Slot.{Slot}
-use Rattle.ccr_base.specs.Choice.{holds, fitting, is_choosable}
+use Rattle.ccr_base.specs.Selection.{holds, fitting, is_choosable}
 use Rattle.ccr_base.proofs.Booleans.{same_number}
 use Rattle.ccr_places.specs.declared.claims.StandingClaim.{StandingClaim}
 use Rattle.ccr_places.specs.Ports.{PortState, may_post, may_claim, is_claimed_by, first_fitting}

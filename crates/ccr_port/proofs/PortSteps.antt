@@ -12,7 +12,7 @@ use Rattle.ccr_base.specs.declared.names.TaskId.{TaskId}
 use Rattle.ccr_base.specs.declared.messages.Msg.{Msg}
 use Rattle.ccr_base.specs.declared.patterns.Pred.{Pred}
 use Rattle.ccr_base.specs.declared.patterns.Slot.{Slot}
-use Rattle.ccr_base.specs.Choice.{holds, fitting}
+use Rattle.ccr_base.specs.Selection.{holds, fitting}
 use Rattle.ccr_base.specs.Lists.{are_apart}
 use Rattle.ccr_places.specs.declared.claims.StandingClaim.{StandingClaim}
 use Rattle.ccr_places.specs.declared.notes.ClaimNote.TheVariants.{Got as GotNote, Short as ShortNote}
@@ -26,7 +26,7 @@ use Rattle.ccr_port.specs.Marks.{IsMarked, IsPort}
 use Rattle.ccr_port.specs.Replies.{are_at, claim_reply}
 use Rattle.ccr_port.proofs.Chains.{both, apart-more, apart-without}
 use Rattle.ccr_port.proofs.MessagesBearTheirPort.{own_more, own-rest}
-use Rattle.ccr_port.proofs.Listing.{messages-more, fitting_keys-more, length-fitting_keys, is_choice}
+use Rattle.ccr_port.proofs.Listing.{messages-more, fitting_keys-more, length-fitting_keys, is_selection}
 use Rattle.ccr_port.proofs.LaneLists.{are-same, can-enter-all, entered-all, is-at}
 
 take_front : {X : Type 0} (n : ℕ) (xs : List X) (x : X) → n ≤ length xs → take n (xs ++ x ∷ []) ≡ take n xs
@@ -134,11 +134,11 @@ module _ (number : ℕ) (es : List (ℕ × Msg)) (task : TaskId) (slot : Slot) (
     long = grind (arith, common_steps, least_of, count-is)
 
     pub marks-there : are_under (take count (fitting_keys slot.pred es)) es ≡ true
-    marks-there = (is_choice slot.pred count es apart).there
+    marks-there = (is_selection slot.pred count es apart).there
 
     module _ (copies : List Msg) (copied : copies ≡ messages_under (take count (fitting_keys slot.pred es)) es) where
       copies-are : copies ≡ take slot.most (fitting slot.pred (messages_of es))
-      copies-are = copied ∙ (is_choice slot.pred count es apart).messages ∙ chosen
+      copies-are = copied ∙ (is_selection slot.pred count es apart).messages ∙ chosen
 
       pub got-reply : Got copies ≡ claim_reply (state_of number es None) slot
       got-reply = rw (choosable, copies-are) refl
@@ -189,10 +189,10 @@ fewer-rest (k ∷ ks) es = omega (arith, fewer-rest ks (without_entry k es), few
 
 module _ (number : ℕ) (es : List (ℕ × Msg)) (lanes : List LaneState) (mark : MarkedClaim) (is : IsPort number es lanes (Some mark)) where
   pub marks-can_go : can_take mark.keys.items es ≡ true
-  marks-can_go = ap (λ ks. can_take ks es) is.marked.0 ∙ (is_choice mark.standing.pred mark.standing.count es is.apart).can_go
+  marks-can_go = ap (λ ks. can_take ks es) is.marked.0 ∙ (is_selection mark.standing.pred mark.standing.count es is.apart).can_go
 
   pub marks-gone : messages_of (without_entries mark.keys.items es) ≡ without_first mark.standing.count mark.standing.pred (messages_of es)
-  marks-gone = ap (λ ks. messages_of (without_entries ks es)) is.marked.0 ∙ (is_choice mark.standing.pred mark.standing.count es is.apart).rest
+  marks-gone = ap (λ ks. messages_of (without_entries ks es)) is.marked.0 ∙ (is_selection mark.standing.pred mark.standing.count es is.apart).rest
 
   pub consumed : (now : List (ℕ × Msg)) (lanes2 : List LaneState) → AreLanes now lanes2 → now ≡ without_entries mark.keys.items es → IsPort number now lanes2 None
   consumed now lanes2 are gone = record {

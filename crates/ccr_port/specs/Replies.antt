@@ -4,7 +4,7 @@ use Rattle.std.specs.List.{list_all}
 use Rattle.std.specs.Option.{option_map_or}
 use Rattle.ccr_base.specs.declared.messages.Msg.{Msg}
 use Rattle.ccr_base.specs.declared.patterns.Slot.{Slot}
-use Rattle.ccr_base.specs.Choice.{fitting, is_choosable}
+use Rattle.ccr_base.specs.Selection.{fitting, is_choosable}
 use Rattle.ccr_places.specs.declared.claims.StandingClaim.{StandingClaim}
 use Rattle.ccr_places.specs.declared.notes.ClaimNote.{ClaimNote}
 use Rattle.ccr_places.specs.declared.notes.ClaimNote.TheVariants.{Got as GotNote, Busy as BusyNote, Short as ShortNote}
@@ -12,7 +12,7 @@ use Rattle.ccr_places.specs.Ports.{PortState, first_fitting}
 use Rattle.ccr_port.specs.declared.claims.Claimed.{Claimed}
 use Rattle.ccr_port.specs.declared.claims.Claimed.TheVariants.{Got, Busy, Short}
 
--- what a free port answers: the choice of the slot, or how many satisfy the predicate where they are too few
+-- what a free port answers: the selection of the slot, or how many satisfy the predicate where they are too few
 abbrev pub free_claim_reply : Slot → List Msg → Claimed
 free_claim_reply slot messages = if is_choosable slot messages then Got (first_fitting slot.most slot.pred messages) else Short (length (fitting slot.pred messages))
 

@@ -38,7 +38,7 @@ pub(crate) fn first_keys(
 {
     let mut keys = Vec::new(alloc);
     let mut key = lane.first();
-    for _place in 0..most {
+    for _index in 0..most {
         let Some(here) = key else { unreachable!() };
         keys.push(here)?;
         key = lane.behind(here);

@@ -50,7 +50,7 @@ fn lane_of(alloc: Global, items: &Items, pred: Pred) -> Result<KeyLane, OutOfMem
 {
     let mut lane = KeyLane::new(alloc, pred);
     let mut key = items.first();
-    for _place in 0..items.len() {
+    for _index in 0..items.len() {
         let Some(here) = key else { unreachable!() };
         let value = items.message(here).value;
         lane.make_room(here)?;

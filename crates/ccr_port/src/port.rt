@@ -87,7 +87,7 @@ impl PortObject {
         slot.port == self.number && slot.least <= slot.most && !self.is_claimed_by(task)
     }
 
-    /// Marks the choice of the slot for the task, where no claim stands and there is a choice. The first claim of a
+    /// Marks the selection of the slot for the task, where no claim stands and there is a selection. The first claim of a
     /// predicate makes its lane. All memory is taken first. What it answers fits the slot: messages of its port, as many as
     /// it takes, or fewer than it takes.
     pub fn claim(&mut self, task: TaskId, slot: &Slot) -> Result<Claimed, OutOfMemory>
@@ -161,11 +161,11 @@ impl PortObject {
         self.claim = None;
     }
 
-    /// The message at the place, from 0 for the oldest; none past the last.
-    pub fn item(&self, place: u32) -> Option<&Msg>
-        ensures { option_copied result ≡ slice_get self.now.items place }
+    /// The message at the index, from 0 for the oldest; none past the last.
+    pub fn item(&self, index: u32) -> Option<&Msg>
+        ensures { option_copied result ≡ slice_get self.now.items index }
     {
-        item_at(&self.items, place)
+        item_at(&self.items, index)
     }
 
     /// How many messages the port holds.

@@ -10,12 +10,13 @@ use Rattle.std.specs.Option.{option_map_or}
 use Rattle.std.specs.FinSet as set
 use Rattle.ccr_base.specs.declared.names.TaskId.{TaskId}
 use Rattle.ccr_base.specs.Names.{same_task}
+use Rattle.ccr_base.proofs.Options.{none_is}
 use Rattle.ccr_places.specs.Queues.{Queued}
 use Rattle.ccr_places.specs.TaskSets.{task_cmp, len-there, same_task-true, same_task_equiv}
 use Rattle.ccr_places.specs.TaskTables.{tasks_where, kept_of, contains-tasks_where, tasks_where-put, tasks_where-gone, tasks_where-same, len-tasks_where}
 use Rattle.ccr_queue.specs.declared.stage.QueueStage.{QueueStage}
 use Rattle.ccr_queue.specs.declared.stage.QueueStage.TheVariants.{Fresh, Resuming, Queued as StandsQueued}
-use Rattle.ccr_queue.specs.QueueStages.{Tied, is_fresh, is_resuming, is_queued}
+use Rattle.ccr_queue.specs.QueueTies.{Tied, is_fresh, is_resuming, is_queued}
 
 kinds : (kept : Option QueueStage) → is_some kept ≡ ((option_map_or is_fresh kept false || option_map_or is_resuming kept false) || option_map_or is_queued kept false)
 kinds None = refl
@@ -83,15 +84,11 @@ module _ (old new : List (TaskId × QueueStage)) (task : TaskId) (kept : Option 
 
 -- ---- a booking
 
-to_none : (kept : Option QueueStage) → not (is_some kept) ≡ true → kept ≡ None
-to_none None e = refl
-to_none (Some stage) e = absurd (true≢false (sym e))
-
 -- a task that may be booked isn't in the table
 pub absent : (table : List (TaskId × QueueStage)) (queued : List Queued) (fresh room : ℕ) → Tied table queued fresh room → (task : TaskId)
     → not ((set.contains (tasks_where is_fresh table) task || set.contains (tasks_where is_resuming table) task) || list_any (λ (q : Queued). same_task task q.task) queued) ≡ true
     → kept_of table task ≡ None
-absent table queued fresh room tied task free = to_none (kept_of table task) (ap not (is_some-known table queued fresh room tied task) ∙ free)
+absent table queued fresh room tied task free = none_is (kept_of table task) (ap not (is_some-known table queued fresh room tied task) ∙ free)
 
 module _ (old new : List (TaskId × QueueStage)) (queued : List Queued) (fresh room space : ℕ) (tied : Tied old queued fresh room) (task : TaskId)
     (none : kept_of old task ≡ None) (distinct : IsDistinct same_task (keys_of new)) where

@@ -1,2 +1,2 @@
 pub mod Answers
-pub mod QueueStages
+pub mod QueueTies

@@ -37,7 +37,7 @@ impl Model for QueueObject {
     ghost use Rattle.std.specs.Prelude.{map};
     ghost use Rattle.std.specs.VecDeque.{deque_capacity};
     ghost use Rattle.ccr_places.specs.Queues.{QueueTasks, queue_tasks_code};
-    ghost use Rattle.ccr_queue.specs.QueueStages.{Tied, queued_of, state_of};
+    ghost use Rattle.ccr_queue.specs.QueueTies.{Tied, queued_of, state_of};
 
     ghost Value = { QueueTasks };
 

@@ -2,7 +2,7 @@
 
 ghost use Rattle.std.specs.Prelude.{◌≡◌, ◌||◌, false, if◌then◌else◌};
 ghost use Rattle.std.specs.Option.{option_map_or};
-ghost use Rattle.ccr_queue.specs.QueueStages.{is_fresh, is_resuming as is_resuming_of};
+ghost use Rattle.ccr_queue.specs.QueueTies.{is_fresh, is_resuming as is_resuming_of};
 
 use ccr_base::Task;
 

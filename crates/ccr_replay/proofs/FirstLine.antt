@@ -21,7 +21,7 @@ after_last (b ∷ line) none = go (b == 10) none (after_last line)
     go true none more = absurd (cc)
     go false none more = more none
 
--- what is behind the first line of a text, by how the line was cut
+-- what is behind the first line of a text, by how the line was split off
 pub behind_some : (text line : List ℕ) (o : Option (Bor (List ℕ))) (rest : Bor (List ℕ)) → o ≡ Some rest → IfSome o (λ r. text ≡ line ++ 10 ∷ r.now) → has_feed line ≡ false → rest.now ≡ after_feed text
 behind_some text line None rest is parts none = absurd (cc)
 behind_some text line (Some r) rest is parts none = let same : r ≡ rest = cc in ap (λ (x : Bor (List ℕ)). x.now) (sym same) ∙ sym (after_line line r.now none) ∙ ap after_feed (sym parts)

@@ -6,7 +6,7 @@ pub mod EntryParts
 pub mod FirstLine
 pub mod Splits
 pub mod NoRecord
-pub mod Cuts
+pub mod LineEnds
 pub mod ReadingIsExact
 pub mod AnswersTellTexts
 pub mod RecordsAreReadAgain

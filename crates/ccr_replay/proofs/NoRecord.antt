@@ -3,7 +3,7 @@ use Rattle.std.proofs.Common.{◌≡◌, ℕ, ◌+◌, Bool, true, false, List, 
 use Rattle.std.specs.Prelude.{◌&&◌, not, if◌then◌else◌}
 use Rattle.std.specs.Str.{bytes_eq}
 use Rattle.std.proofs.lemmas.Slice.Eq.{bytes_eq-Decides}
-use Rattle.ccr_text.specs.Lines.{begins_with, cut, is_first_word, numbered, numbered_line}
+use Rattle.ccr_text.specs.Lines.{begins_with, split_text, is_first_word, numbered, numbered_line}
 use Rattle.ccr_text.specs.Fields.{Words, ◌>>=◌, or_code}
 use Rattle.ccr_text.specs.Words.{is_clean, words_of}
 use Rattle.ccr_wiring.specs.declared.parts.Kind.{Kind}
@@ -90,5 +90,5 @@ none_in so last number (line ∷ lines) parts is = go (after_line so (numbered_l
         let rest = more new is in
         ap (λ (t : Bool). not t && none_begins (codes "record") lines) free ∙ rest
 
-pub no_record : (text : List ℕ) (parts : Parts) → reading_text text ≡ Ok parts → none_begins (codes "record") (cut text) ≡ true
-no_record text parts is = none_in None 0 1 (cut text) parts is
+pub no_record : (text : List ℕ) (parts : Parts) → reading_text text ≡ Ok parts → none_begins (codes "record") (split_text text) ≡ true
+no_record text parts is = none_in None 0 1 (split_text text) parts is

@@ -5,7 +5,7 @@ use Rattle.std.specs.Str.{bytes_eq}
 use Rattle.std.proofs.lemmas.Bool.Decides.{nat_tests}
 use Rattle.std.proofs.lemmas.Slice.Eq.{bytes_eq-Decides}
 use Rattle.std.proofs.Math.Seq.{drop-length}
-use Rattle.ccr_text.specs.Lines.{begin_from, begins_with, cut, is_first_word, numbered, numbered_line, index_or_end}
+use Rattle.ccr_text.specs.Lines.{begin_from, begins_with, split_text, is_first_word, numbered, numbered_line, index_or_end}
 use Rattle.ccr_text.specs.Fields.{Words, ◌>>=◌, no_more, or_code, unless, word}
 use Rattle.ccr_text.specs.Words.{is_clean, number_of, words_of, IsSkipped}
 use Rattle.ccr_wiring.specs.declared.parts.Parts.{Parts}
@@ -17,10 +17,10 @@ use Rattle.ccr_replay.specs.Turns.{reading_turns, turns_on}
 use Rattle.ccr_replay.proofs.TurnsSaid as turns_lines
 use Rattle.ccr_replay.specs.declared.records.Record.{Record}
 use Rattle.ccr_replay.specs.Grammar.{AreRecord, AreSkipped, IsLastLine, IsRecordLine, Says}
-use Rattle.ccr_replay.specs.Reading.{after_feed, and_then, behind_first, done_in, done_on, done_place, ending, line_at, recorded_turns, part_before, reading_behind, reading_lines, reading_part, reading_record, record_behind, record_place, skipped_in, skipped_lines, skipped_on, turns_behind, recorded_wiring, workers_in, workers_of, workers_on}
-use Rattle.ccr_replay.proofs.Cuts.{cut_after, found_at, fronted, parted}
+use Rattle.ccr_replay.specs.Reading.{after_feed, and_then, behind_first, done_in, done_index, done_on, ending, line_at, recorded_turns, part_before, reading_behind, reading_lines, reading_part, reading_record, record_behind, record_index, skipped_in, skipped_lines, skipped_on, turns_behind, recorded_wiring, workers_in, workers_of, workers_on}
+use Rattle.ccr_replay.proofs.LineEnds.{split_after, found_at, fronted, parted}
 use Rattle.ccr_replay.proofs.NoRecord.{no_record}
-use Rattle.ccr_replay.proofs.Splits.{cut_behind, ended_free, found, none_begins, out_is, part_is, passed, spans, spans_ended}
+use Rattle.ccr_replay.proofs.Splits.{split_behind, ended_free, found, none_begins, out_is, part_is, passed, spans, spans_ended}
 
 -- ==== what the grammar says is read
 
@@ -75,43 +75,43 @@ ending_read before last others is are =
     ap (λ (r : Result (Unit {0}) ℕ). and_then (on_line (before + 1) r) (λ done. skipped_lines (numbered (before + 2) others))) (last_read (before + 1) last is)
     ∙ all_skipped (before + 2) others are
 
-done_found : (text : List ℕ) (middle : List (List ℕ)) (last : List ℕ) (others : List (List ℕ)) → cut text ≡ middle ++ last ∷ others → none_begins (codes "done") middle ≡ true → begins_with (codes "done") last ≡ true → done_place text ≡ (spans middle, length middle)
+done_found : (text : List ℕ) (middle : List (List ℕ)) (last : List ℕ) (others : List (List ℕ)) → split_text text ≡ middle ++ last ∷ others → none_begins (codes "done") middle ≡ true → begins_with (codes "done") last ≡ true → done_index text ≡ (spans middle, length middle)
 done_found text middle last others is free begins =
-    let at : begin_from (codes "done") 0 0 (cut text) ≡ Some (0 + spans middle, 0 + length middle) = ap (begin_from (codes "done") 0 0) is ∙ passed (codes "done") 0 0 middle (last ∷ others) free ∙ found (codes "done") last others (0 + spans middle) (0 + length middle) begins in
+    let at : begin_from (codes "done") 0 0 (split_text text) ≡ Some (0 + spans middle, 0 + length middle) = ap (begin_from (codes "done") 0 0) is ∙ passed (codes "done") 0 0 middle (last ∷ others) free ∙ found (codes "done") last others (0 + spans middle) (0 + length middle) begins in
     let bytes : 0 + spans middle ≡ spans middle = omega arith in
     let count : 0 + length middle ≡ length middle = omega arith in
     ap (index_or_end text) at ∙ ap (λ (n : ℕ). (n, 0 + length middle)) bytes ∙ ap (λ (n : ℕ). (spans middle, n)) count
 
-turns_read : (actors number : ℕ) (turns text : List ℕ) (middle : List (List ℕ)) (last : List ℕ) (others : List (List ℕ)) → cut text ≡ middle ++ last ∷ others → AreTurns actors middle turns → IsLastLine last → AreSkipped others → turns_behind actors number text ≡ Ok turns
+turns_read : (actors number : ℕ) (turns text : List ℕ) (middle : List (List ℕ)) (last : List ℕ) (others : List (List ℕ)) → split_text text ≡ middle ++ last ∷ others → AreTurns actors middle turns → IsLastLine last → AreSkipped others → turns_behind actors number text ≡ Ok turns
 turns_read actors number turns text middle last others is are ends skipped =
-    let place = done_found text middle last others is (turns_free actors middle turns are) (last_begins last ends) in
+    let index = done_found text middle last others is (turns_free actors middle turns are) (last_begins last ends) in
     let parts = parted text middle last others is in
     let read : reading_turns (take (spans middle) text) number actors ≡ Ok turns = ap (λ (ls : List (List ℕ)). turns_on actors (numbered (number + 1) ls)) parts.before ∙ turns_lines.read actors (number + 1) middle turns are in
-    ap (λ (p : ℕ × ℕ). and_then (reading_turns (take p.0 text) number actors) (λ ts. and_then (ending (number + p.1) (cut (drop p.0 text))) (λ done. Ok ts))) place
-    ∙ ap (λ (r : Result (List ℕ) (ℕ × ℕ)). and_then r (λ ts. and_then (ending (number + length middle) (cut (drop (spans middle) text))) (λ done. Ok ts))) read
+    ap (λ (p : ℕ × ℕ). and_then (reading_turns (take p.0 text) number actors) (λ ts. and_then (ending (number + p.1) (split_text (drop p.0 text))) (λ done. Ok ts))) index
+    ∙ ap (λ (r : Result (List ℕ) (ℕ × ℕ)). and_then r (λ ts. and_then (ending (number + length middle) (split_text (drop (spans middle) text))) (λ done. Ok ts))) read
     ∙ ap (λ (ls : List (List ℕ)). and_then (ending (number + length middle) ls) (λ done. Ok turns)) parts.behind
     ∙ ap (λ (r : Result (Unit {0}) (ℕ × ℕ)). and_then r (λ done. Ok turns)) (ending_read (number + length middle) last others ends skipped)
 
-lines_read : (wiring : Parts) (before workers : ℕ) (turns text : List ℕ) → AreRecord (length wiring.posters) workers turns (cut text) → reading_behind wiring before text ≡ Ok (record { wiring = wiring; workers = workers; turns = turns })
+lines_read : (wiring : Parts) (before workers : ℕ) (turns text : List ℕ) → AreRecord (length wiring.posters) workers turns (split_text text) → reading_behind wiring before text ≡ Ok (record { wiring = wiring; workers = workers; turns = turns })
 lines_read wiring before workers turns text are =
     let rest = after_feed text in
-    let behind : cut rest ≡ are.middle ++ are.last ∷ are.others = cut_after text are.first (are.middle ++ are.last ∷ are.others) are.all in
+    let behind : split_text rest ≡ are.middle ++ are.last ∷ are.others = split_after text are.first (are.middle ++ are.last ∷ are.others) are.all in
     ap (reading_lines wiring before text) are.all
     ∙ ap (λ (r : Result ℕ ℕ). and_then (on_line (before + 1) r) (λ n. record_behind wiring (before + 1) n rest)) (record_read (before + 1) workers are.first are.first_line)
     ∙ ap (λ (r : Result (List ℕ) (ℕ × ℕ)). and_then r (λ ts. Ok (record { wiring = wiring; workers = workers; turns = ts }))) (turns_read (length wiring.posters + workers) (before + 1) turns rest are.middle are.last are.others behind are.turn_lines are.last_line are.skipped)
 
 -- ---- the whole text
 
-record_found : (text behind first : List ℕ) (more : List (List ℕ)) → none_begins (codes "record") (cut text) ≡ true → cut behind ≡ first ∷ more → begins_with (codes "record") first ≡ true → record_place (text ++ 10 ∷ behind) ≡ (length text + 1, length (cut (text ++ 10 ∷ [])))
+record_found : (text behind first : List ℕ) (more : List (List ℕ)) → none_begins (codes "record") (split_text text) ≡ true → split_text behind ≡ first ∷ more → begins_with (codes "record") first ≡ true → record_index (text ++ 10 ∷ behind) ≡ (length text + 1, length (split_text (text ++ 10 ∷ [])))
 record_found text behind first more free is begins =
-    let lines = cut (text ++ 10 ∷ []) in
-    let whole : cut (text ++ 10 ∷ behind) ≡ lines ++ (first ∷ more) = cut_behind text behind ∙ ap (λ (ls : List (List ℕ)). lines ++ ls) is in
-    let at : begin_from (codes "record") 0 0 (cut (text ++ 10 ∷ behind)) ≡ Some (0 + spans lines, 0 + length lines) = ap (begin_from (codes "record") 0 0) whole ∙ passed (codes "record") 0 0 lines (first ∷ more) (ended_free (codes "record") text free) ∙ found (codes "record") first more (0 + spans lines) (0 + length lines) begins in
+    let lines = split_text (text ++ 10 ∷ []) in
+    let whole : split_text (text ++ 10 ∷ behind) ≡ lines ++ (first ∷ more) = split_behind text behind ∙ ap (λ (ls : List (List ℕ)). lines ++ ls) is in
+    let at : begin_from (codes "record") 0 0 (split_text (text ++ 10 ∷ behind)) ≡ Some (0 + spans lines, 0 + length lines) = ap (begin_from (codes "record") 0 0) whole ∙ passed (codes "record") 0 0 lines (first ∷ more) (ended_free (codes "record") text free) ∙ found (codes "record") first more (0 + spans lines) (0 + length lines) begins in
     let bytes : 0 + spans lines ≡ length text + 1 = let e = spans_ended text in omega (arith, e) in
     let count : 0 + length lines ≡ length lines = omega arith in
     ap (index_or_end (text ++ 10 ∷ behind)) at ∙ ap (λ (n : ℕ). (n, 0 + length lines)) bytes ∙ ap (λ (n : ℕ). (length text + 1, n)) count
 
-some_bytes : (text first : List ℕ) (lines : List (List ℕ)) → cut text ≡ first ∷ lines → 0 < length text
+some_bytes : (text first : List ℕ) (lines : List (List ℕ)) → split_text text ≡ first ∷ lines → 0 < length text
 some_bytes [] first lines is = absurd (cc)
 some_bytes (b ∷ text) first lines is = omega arith
 
@@ -127,14 +127,14 @@ read text r says =
     let are = says.lines in
     let bytes = t ++ 10 ∷ b in
     let wiring : reading_text t ≡ Ok r.wiring = text_read t r.wiring says.wiring in
-    let place = record_found t b are.first (are.middle ++ are.last ∷ are.others) (no_record t r.wiring wiring) are.all (record_begins r.workers are.first are.first_line) in
-    let part : recorded_wiring bytes ≡ t = ap (λ (p : ℕ × ℕ). part_before p.0 bytes) place ∙ part_is t b (some_bytes b are.first (are.middle ++ are.last ∷ are.others) are.all) in
-    let out : recorded_turns bytes ≡ b = ap (λ (p : ℕ × ℕ). drop p.0 bytes) place ∙ out_is t b in
+    let index = record_found t b are.first (are.middle ++ are.last ∷ are.others) (no_record t r.wiring wiring) are.all (record_begins r.workers are.first are.first_line) in
+    let part : recorded_wiring bytes ≡ t = ap (λ (p : ℕ × ℕ). part_before p.0 bytes) index ∙ part_is t b (some_bytes b are.first (are.middle ++ are.last ∷ are.others) are.all) in
+    let out : recorded_turns bytes ≡ b = ap (λ (p : ℕ × ℕ). drop p.0 bytes) index ∙ out_is t b in
     ap reading_record says.whole
-    ∙ ap (λ (x : List ℕ). and_then (reading_part x) (λ w. reading_behind w (record_place bytes).1 (recorded_turns bytes))) part
-    ∙ ap (λ (x : Result Parts (ℕ × ℕ)). and_then x (λ w. reading_behind w (record_place bytes).1 (recorded_turns bytes))) (part_read t r.wiring says.short wiring)
-    ∙ ap (reading_behind r.wiring (record_place bytes).1) out
-    ∙ lines_read r.wiring (record_place bytes).1 r.workers r.turns b are
+    ∙ ap (λ (x : List ℕ). and_then (reading_part x) (λ w. reading_behind w (record_index bytes).1 (recorded_turns bytes))) part
+    ∙ ap (λ (x : Result Parts (ℕ × ℕ)). and_then x (λ w. reading_behind w (record_index bytes).1 (recorded_turns bytes))) (part_read t r.wiring says.short wiring)
+    ∙ ap (reading_behind r.wiring (record_index bytes).1) out
+    ∙ lines_read r.wiring (record_index bytes).1 r.workers r.turns b are
 
 -- ==== what is read is what the grammar says
 
@@ -257,29 +257,29 @@ record Ended (actors : ℕ) (turns : List ℕ) (lines : List (List ℕ)) : Type 
   skipped : AreSkipped others
 
 abbrev turns_at : ℕ → ℕ → List ℕ → ℕ × ℕ → Result (List ℕ) (ℕ × ℕ)
-turns_at actors number text p = and_then (reading_turns (take p.0 text) number actors) (λ ts. and_then (ending (number + p.1) (cut (drop p.0 text))) (λ done. Ok ts))
+turns_at actors number text p = and_then (reading_turns (take p.0 text) number actors) (λ ts. and_then (ending (number + p.1) (split_text (drop p.0 text))) (λ done. Ok ts))
 
-turns_said : (actors number : ℕ) (text turns : List ℕ) → turns_behind actors number text ≡ Ok turns → Ended actors turns (cut text)
-turns_said actors number text turns is = by (begin_from (codes "done") 0 0 (cut text)) refl is
+turns_said : (actors number : ℕ) (text turns : List ℕ) → turns_behind actors number text ≡ Ok turns → Ended actors turns (split_text text)
+turns_said actors number text turns is = by (begin_from (codes "done") 0 0 (split_text text)) refl is
   where
-    by : (o : Option (ℕ × ℕ)) → begin_from (codes "done") 0 0 (cut text) ≡ o → turns_at actors number text (index_or_end text o) ≡ Ok turns → Ended actors turns (cut text)
+    by : (o : Option (ℕ × ℕ)) → begin_from (codes "done") 0 0 (split_text text) ≡ o → turns_at actors number text (index_or_end text o) ≡ Ok turns → Ended actors turns (split_text text)
     by None at is =
-        let first = and_ok (reading_turns (take (length text) text) number actors) (λ ts. and_then (ending (number + length (cut text)) (cut (drop (length text) text))) (λ done. Ok ts)) turns is in
-        let clash : Err (number + length (cut text), 17) ≡ Ok turns = sym (ap (λ (t : List ℕ). and_then (ending (number + length (cut text)) (cut t)) (λ done. Ok first.0)) (drop-length text)) ∙ first.2 in
-        absurd (never (number + length (cut text), 17) turns clash)
-    by (Some place) at is =
-        let found = found_at (codes "done") (cut text) 0 0 place.0 place.1 at in
+        let first = and_ok (reading_turns (take (length text) text) number actors) (λ ts. and_then (ending (number + length (split_text text)) (split_text (drop (length text) text))) (λ done. Ok ts)) turns is in
+        let clash : Err (number + length (split_text text), 17) ≡ Ok turns = sym (ap (λ (t : List ℕ). and_then (ending (number + length (split_text text)) (split_text t)) (λ done. Ok first.0)) (drop-length text)) ∙ first.2 in
+        absurd (never (number + length (split_text text), 17) turns clash)
+    by (Some index) at is =
+        let found = found_at (codes "done") (split_text text) 0 0 index.0 index.1 at in
         let front = found.front in
-        let spot : place.0 ≡ spans front = let e = found.place in omega (arith, e) in
+        let spot : index.0 ≡ spans front = let e = found.index in omega (arith, e) in
         let parts = parted text front found.line found.back found.all in
-        let first = and_ok (reading_turns (take place.0 text) number actors) (λ ts. and_then (ending (number + place.1) (cut (drop place.0 text))) (λ done. Ok ts)) turns is in
-        let second = and_ok (ending (number + place.1) (cut (drop place.0 text))) (λ done. Ok first.0) turns first.2 in
+        let first = and_ok (reading_turns (take index.0 text) number actors) (λ ts. and_then (ending (number + index.1) (split_text (drop index.0 text))) (λ done. Ok ts)) turns is in
+        let second = and_ok (ending (number + index.1) (split_text (drop index.0 text))) (λ done. Ok first.0) turns first.2 in
         let same : first.0 ≡ turns = let e = second.2 in cc in
-        let before : cut (take place.0 text) ≡ front = ap (λ (n : ℕ). cut (take n text)) spot ∙ parts.before in
-        let behind : cut (drop place.0 text) ≡ found.line ∷ found.back = ap (λ (n : ℕ). cut (drop n text)) spot ∙ parts.behind in
+        let before : split_text (take index.0 text) ≡ front = ap (λ (n : ℕ). split_text (take n text)) spot ∙ parts.before in
+        let behind : split_text (drop index.0 text) ≡ found.line ∷ found.back = ap (λ (n : ℕ). split_text (drop n text)) spot ∙ parts.behind in
         let read : turns_on actors (numbered (number + 1) front) ≡ Ok first.0 = ap (λ (ls : List (List ℕ)). turns_on actors (numbered (number + 1) ls)) (sym before) ∙ first.1 in
-        let end : ending (number + place.1) (found.line ∷ found.back) ≡ Ok second.0 = ap (ending (number + place.1)) (sym behind) ∙ second.1 in
-        let n = number + place.1 in
+        let end : ending (number + index.1) (found.line ∷ found.back) ≡ Ok second.0 = ap (ending (number + index.1)) (sym behind) ∙ second.1 in
+        let n = number + index.1 in
         let last = and_ok (on_line (n + 1) (done_on (numbered_line (n + 1) found.line))) (λ done. skipped_lines (numbered (n + 2) found.back)) second.0 end in
         record {
           middle = front;
@@ -295,22 +295,22 @@ record Behind (wiring : Parts) (r : Record) (lines : List (List ℕ)) : Type 0 w
   same : r.wiring ≡ wiring
   are : AreRecord (length wiring.posters) r.workers r.turns lines
 
-lines_said : (wiring : Parts) (before : ℕ) (r : Record) (text first : List ℕ) (more : List (List ℕ)) → cut text ≡ first ∷ more → begins_with (codes "record") first ≡ true → reading_behind wiring before text ≡ Ok r → Behind wiring r (cut text)
-lines_said wiring before r text first more cuts begins is =
+lines_said : (wiring : Parts) (before : ℕ) (r : Record) (text first : List ℕ) (more : List (List ℕ)) → split_text text ≡ first ∷ more → begins_with (codes "record") first ≡ true → reading_behind wiring before text ≡ Ok r → Behind wiring r (split_text text)
+lines_said wiring before r text first more splits begins is =
     let rest = after_feed text in
-    let read : reading_lines wiring before text (first ∷ more) ≡ Ok r = ap (reading_lines wiring before text) (sym cuts) ∙ is in
+    let read : reading_lines wiring before text (first ∷ more) ≡ Ok r = ap (reading_lines wiring before text) (sym splits) ∙ is in
     let one = and_ok (on_line (before + 1) (workers_on (numbered_line (before + 1) first))) (λ n. record_behind wiring (before + 1) n rest) r read in
     let line = record_said (before + 1) one.0 first begins (line_ok (before + 1) (workers_on (numbered_line (before + 1) first)) one.0 one.1) in
     let two = and_ok (turns_behind (length wiring.posters + one.0) (before + 1) rest) (λ ts. Ok (record { wiring = wiring; workers = one.0; turns = ts })) r one.2 in
     let same : record { wiring = wiring; workers = one.0; turns = two.0 } ≡ r = let e = two.2 in cc in
     let end = turns_said (length wiring.posters + one.0) (before + 1) rest two.0 two.1 in
-    let behind : more ≡ end.middle ++ end.last ∷ end.others = sym (cut_after text first more cuts) ∙ end.all in
-    let are : AreRecord (length wiring.posters) one.0 two.0 (cut text) = record {
+    let behind : more ≡ end.middle ++ end.last ∷ end.others = sym (split_after text first more splits) ∙ end.all in
+    let are : AreRecord (length wiring.posters) one.0 two.0 (split_text text) = record {
       first = first;
       middle = end.middle;
       last = end.last;
       others = end.others;
-      all = cuts ∙ ap (λ (ls : List (List ℕ)). first ∷ ls) behind;
+      all = splits ∙ ap (λ (ls : List (List ℕ)). first ∷ ls) behind;
       first_line = line;
       turn_lines = end.turn_lines;
       last_line = end.last_line;
@@ -318,7 +318,7 @@ lines_said wiring before r text first more cuts begins is =
     } in
     record {
       same = ap (λ (x : Record). x.wiring) (sym same);
-      are = subst (λ (x : Record). AreRecord (length wiring.posters) x.workers x.turns (cut text)) same are;
+      are = subst (λ (x : Record). AreRecord (length wiring.posters) x.workers x.turns (split_text text)) same are;
     }
 
 -- ---- the whole text
@@ -337,23 +337,23 @@ part_said text wiring is = by (nat_lt 1048576 (length text)) refl is
 abbrev record_at : List ℕ → ℕ × ℕ → Result Record (ℕ × ℕ)
 record_at text p = and_then (reading_part (part_before p.0 text)) (λ w. reading_behind w p.1 (drop p.0 text))
 
-said_behind : (text : List ℕ) (r : Record) (at count : ℕ) (front : List (List ℕ)) (line : List ℕ) (back : List (List ℕ)) → cut text ≡ front ++ line ∷ back → at ≡ spans front → begins_with (codes "record") line ≡ true → record_at text (at, count) ≡ Ok r → Says text r
-said_behind text r at count [] line back cuts spot begins is =
+said_behind : (text : List ℕ) (r : Record) (at count : ℕ) (front : List (List ℕ)) (line : List ℕ) (back : List (List ℕ)) → split_text text ≡ front ++ line ∷ back → at ≡ spans front → begins_with (codes "record") line ≡ true → record_at text (at, count) ≡ Ok r → Says text r
+said_behind text r at count [] line back splits spot begins is =
     let read = and_ok (reading_part (part_before at text)) (λ w. reading_behind w count (drop at text)) r is in
-    let some = some_bytes text line back cuts in
+    let some = some_bytes text line back splits in
     let inside : nat_lt 0 (length text) ≡ true = grind (arith, nat_tests, some) in
     let none : part_before at text ≡ [] = ap (λ (n : ℕ). part_before n text) spot ∙ ap (λ (t : Bool). if t then take (0 - 1) text else text) inside in
     let empty : reading_part [] ≡ Ok read.0 = ap reading_part (sym none) ∙ read.1 in
     absurd (nothing_read read.0 (part_said [] read.0 empty).1)
-said_behind text r at count (first ∷ front) line back cuts spot begins is =
+said_behind text r at count (first ∷ front) line back splits spot begins is =
     let read = and_ok (reading_part (part_before at text)) (λ w. reading_behind w count (drop at text)) r is in
-    let fr = fronted text first front line back cuts in
+    let fr = fronted text first front line back splits in
     let t = fr.front in
     let b = drop at text in
     let w = read.0 in
     let left : drop (spans (first ∷ front)) text ≡ b = ap (λ (n : ℕ). drop n text) (sym spot) in
     let whole : text ≡ t ++ 10 ∷ b = fr.whole ∙ ap (λ (x : List ℕ). t ++ 10 ∷ x) left in
-    let behind : cut b ≡ line ∷ back = ap cut (sym left) ∙ (parted text (first ∷ front) line back cuts).behind in
+    let behind : split_text b ≡ line ∷ back = ap split_text (sym left) ∙ (parted text (first ∷ front) line back splits).behind in
     let spot_is : at ≡ length t + 1 = spot ∙ fr.long in
     let part : part_before at text ≡ t = ap (λ (n : ℕ). part_before n text) spot_is ∙ ap (part_before (length t + 1)) whole ∙ part_is t b (some_bytes b line back behind) in
     let wiring = part_said t w (ap reading_part (sym part) ∙ read.1) in
@@ -364,18 +364,18 @@ said_behind text r at count (first ∷ front) line back cuts spot begins is =
       whole = whole;
       short = wiring.0;
       wiring = subst (IsText t) (sym lines.same) (text_said t w wiring.1);
-      lines = subst (λ (x : Parts). AreRecord (length x.posters) r.workers r.turns (cut b)) (sym lines.same) lines.are;
+      lines = subst (λ (x : Parts). AreRecord (length x.posters) r.workers r.turns (split_text b)) (sym lines.same) lines.are;
     }
 
 pub said : (text : List ℕ) (r : Record) → reading_record text ≡ Ok r → Says text r
-said text r is = by (begin_from (codes "record") 0 0 (cut text)) refl is
+said text r is = by (begin_from (codes "record") 0 0 (split_text text)) refl is
   where
-    by : (o : Option (ℕ × ℕ)) → begin_from (codes "record") 0 0 (cut text) ≡ o → record_at text (index_or_end text o) ≡ Ok r → Says text r
+    by : (o : Option (ℕ × ℕ)) → begin_from (codes "record") 0 0 (split_text text) ≡ o → record_at text (index_or_end text o) ≡ Ok r → Says text r
     by None at is =
-        let read = and_ok (reading_part (part_before (length text) text)) (λ w. reading_behind w (length (cut text)) (drop (length text) text)) r is in
-        let clash : Err (max (length (cut text)) 1, 16) ≡ Ok r = sym (ap (reading_behind read.0 (length (cut text))) (drop-length text)) ∙ read.2 in
-        absurd (never (max (length (cut text)) 1, 16) r clash)
-    by (Some place) at is =
-        let found = found_at (codes "record") (cut text) 0 0 place.0 place.1 at in
-        let spot : place.0 ≡ spans found.front = let e = found.place in omega (arith, e) in
-        said_behind text r place.0 place.1 found.front found.line found.back found.all spot found.begins is
+        let read = and_ok (reading_part (part_before (length text) text)) (λ w. reading_behind w (length (split_text text)) (drop (length text) text)) r is in
+        let clash : Err (max (length (split_text text)) 1, 16) ≡ Ok r = sym (ap (reading_behind read.0 (length (split_text text))) (drop-length text)) ∙ read.2 in
+        absurd (never (max (length (split_text text)) 1, 16) r clash)
+    by (Some index) at is =
+        let found = found_at (codes "record") (split_text text) 0 0 index.0 index.1 at in
+        let spot : index.0 ≡ spans found.front = let e = found.index in omega (arith, e) in
+        said_behind text r index.0 index.1 found.front found.line found.back found.all spot found.begins is

@@ -2,7 +2,7 @@
 use Rattle.std.proofs.Common.{◌≡◌, ◌<◌, ◌≤◌, ℕ, suc, ◌+◌, ◌^◌, List, [], ◌∷◌, ◌++◌, length, map, Ok, refl, sym, ap, ◌∙◌, append-nil, arith, inr}
 use Rattle.std.specs.List.{All}
 use Rattle.std.proofs.lemmas.Grind.{common_steps}
-use Rattle.ccr_text.specs.Lines.{cut}
+use Rattle.ccr_text.specs.Lines.{split_text}
 use Rattle.ccr_text.specs.Spelling.{joined, line_text, text_of, AreLines, AreWords}
 use Rattle.ccr_text.proofs.Again.{joined_clean, joined_words}
 use Rattle.ccr_text.proofs.Decimals.{number_again}
@@ -17,7 +17,7 @@ use Rattle.ccr_replay.specs.Grammar.{IsLastLine, IsRecordLine, Says}
 use Rattle.ccr_replay.specs.Reading.{reading_record}
 use Rattle.ccr_replay.specs.Records.{done_words, record_lines, record_text, record_words, turn_words}
 use Rattle.ccr_replay.proofs.ReadingIsExact.{read}
-use Rattle.ccr_replay.proofs.Splits.{cut_line, cut_lines, decimal_word}
+use Rattle.ccr_replay.proofs.Splits.{split_line, split_all_lines, decimal_word}
 
 -- ---- the words that are written
 
@@ -65,17 +65,17 @@ turn_lines actors (actor ∷ turns) low fits =
 text-append : (lines more : List (List (List ℕ))) → text_of (lines ++ more) ≡ text_of lines ++ text_of more
 text-append lines more = grind (arith, common_steps)
 
-last_cut : cut (text_of (done_words ∷ [])) ≡ joined done_words ∷ []
-last_cut = ap cut (sym (append-nil (text_of (done_words ∷ [])))) ∙ cut_lines (done_words ∷ []) [] (done_are, tt)
+last_split : split_text (text_of (done_words ∷ [])) ≡ joined done_words ∷ []
+last_split = ap split_text (sym (append-nil (text_of (done_words ∷ [])))) ∙ split_all_lines (done_words ∷ []) [] (done_are, tt)
 
-lines_cut : (workers : ℕ) (turns : List ℕ) → workers ≤ 16 → All (λ a. a < 2 ^ 64) turns → cut (text_of (record_lines workers turns)) ≡ joined (record_words workers) ∷ (map joined (map turn_words turns) ++ joined done_words ∷ [])
-lines_cut workers turns few fits =
+lines_split : (workers : ℕ) (turns : List ℕ) → workers ≤ 16 → All (λ a. a < 2 ^ 64) turns → split_text (text_of (record_lines workers turns)) ≡ joined (record_words workers) ∷ (map joined (map turn_words turns) ++ joined done_words ∷ [])
+lines_split workers turns few fits =
     let small : workers < 2 ^ 64 = omega arith in
     let lines = map turn_words turns in
-    ap (λ (t : List ℕ). cut (line_text (record_words workers) ++ t)) (text-append lines (done_words ∷ []))
-    ∙ cut_line (record_words workers) (text_of lines ++ text_of (done_words ∷ [])) (record_are workers small)
-    ∙ ap (λ (ls : List (List ℕ)). joined (record_words workers) ∷ ls) (cut_lines lines (text_of (done_words ∷ [])) (turns_are turns fits))
-    ∙ ap (λ (ls : List (List ℕ)). joined (record_words workers) ∷ (map joined lines ++ ls)) last_cut
+    ap (λ (t : List ℕ). split_text (line_text (record_words workers) ++ t)) (text-append lines (done_words ∷ []))
+    ∙ split_line (record_words workers) (text_of lines ++ text_of (done_words ∷ [])) (record_are workers small)
+    ∙ ap (λ (ls : List (List ℕ)). joined (record_words workers) ∷ ls) (split_all_lines lines (text_of (done_words ∷ [])) (turns_are turns fits))
+    ∙ ap (λ (ls : List (List ℕ)). joined (record_words workers) ∷ (map joined lines ++ ls)) last_split
 
 says : (text : List ℕ) (wiring : Parts) (workers : ℕ) (turns : List ℕ) → reading_text text ≡ Ok wiring → length text ≤ 1048576 → workers ≤ 16 → All (λ a. a < length wiring.posters + workers) turns → All (λ a. a < 2 ^ 64) turns
     → Says (record_text text workers turns) (record { wiring = wiring; workers = workers; turns = turns })
@@ -90,7 +90,7 @@ says text wiring workers turns reads short few low fits = record {
     middle = map joined (map turn_words turns);
     last = joined done_words;
     others = [];
-    all = lines_cut workers turns few fits;
+    all = lines_split workers turns few fits;
     first_line = record_line workers few;
     turn_lines = turn_lines (length wiring.posters + workers) turns low fits;
     last_line = last_line;

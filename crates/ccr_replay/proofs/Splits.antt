@@ -6,7 +6,7 @@ use Rattle.std.proofs.lemmas.Bool.Decides.{nat_tests}
 use Rattle.std.proofs.lemmas.Grind.{common_steps}
 use Rattle.std.proofs.lemmas.Fmt.{digits_decimal, decimal_nonempty}
 use Rattle.std.proofs.lemmas.List.Concat.{flat_map-cons}
-use Rattle.ccr_text.specs.Lines.{begin_from, begins_with, cut}
+use Rattle.ccr_text.specs.Lines.{begin_from, begins_with, split_text}
 use Rattle.ccr_text.specs.Spelling.{joined, line_text, text_of, AreLines, AreWords}
 use Rattle.ccr_text.specs.Words.{is_graphic}
 use Rattle.ccr_replay.specs.Reading.{part_before}
@@ -15,7 +15,7 @@ use Rattle.ccr_text.proofs.Decimals.{own}
 use Rattle.std.proofs.lemmas.Bool.{and_parts as both}
 use Rattle.std.proofs.Math.Seq.{take-append_seam}
 use Rattle.ccr_base.proofs.Booleans.{not_true}
-use Rattle.ccr_wiretext.proofs.PlainPosts.{digits_marks}
+use Rattle.ccr_wiretext.proofs.PlainPosts.{digits_graphic}
 
 -- how many bytes these lines have, each with its LF
 abbrev pub spans : List (List ℕ) → ℕ
@@ -42,83 +42,83 @@ passed word byte number (line ∷ lines) more none =
 
 -- ---- a text that ends with LF, and what stands behind it
 
-cut_some : (text : List ℕ) → (first : List ℕ) × (lines : List (List ℕ)) × (cut (text ++ 10 ∷ []) ≡ first ∷ lines)
-cut_some [] = ([], [], refl)
-cut_some (b ∷ text) = go (b == 10) (cut_some text)
+split_some : (text : List ℕ) → (first : List ℕ) × (lines : List (List ℕ)) × (split_text (text ++ 10 ∷ []) ≡ first ∷ lines)
+split_some [] = ([], [], refl)
+split_some (b ∷ text) = go (b == 10) (split_some text)
   where
-    go : (t : Bool) → (first : List ℕ) × (lines : List (List ℕ)) × (cut (text ++ 10 ∷ []) ≡ first ∷ lines) → (first : List ℕ) × (lines : List (List ℕ)) × ((if t then ([] ∷ cut (text ++ 10 ∷ [])) else onto_first b (cut (text ++ 10 ∷ []))) ≡ first ∷ lines)
-    go true more = ([], cut (text ++ 10 ∷ []), refl)
+    go : (t : Bool) → (first : List ℕ) × (lines : List (List ℕ)) × (split_text (text ++ 10 ∷ []) ≡ first ∷ lines) → (first : List ℕ) × (lines : List (List ℕ)) × ((if t then ([] ∷ split_text (text ++ 10 ∷ [])) else onto_first b (split_text (text ++ 10 ∷ []))) ≡ first ∷ lines)
+    go true more = ([], split_text (text ++ 10 ∷ []), refl)
     go false more = (b ∷ more.0, more.1, ap (onto_first b) more.2)
 
-pub cut_behind : (text more : List ℕ) → cut (text ++ 10 ∷ more) ≡ cut (text ++ 10 ∷ []) ++ cut more
-cut_behind [] more = refl
-cut_behind (b ∷ text) more = go (b == 10) (cut_behind text more)
+pub split_behind : (text more : List ℕ) → split_text (text ++ 10 ∷ more) ≡ split_text (text ++ 10 ∷ []) ++ split_text more
+split_behind [] more = refl
+split_behind (b ∷ text) more = go (b == 10) (split_behind text more)
   where
-    go : (t : Bool) → cut (text ++ 10 ∷ more) ≡ cut (text ++ 10 ∷ []) ++ cut more → (if t then ([] ∷ cut (text ++ 10 ∷ more)) else onto_first b (cut (text ++ 10 ∷ more))) ≡ (if t then ([] ∷ cut (text ++ 10 ∷ [])) else onto_first b (cut (text ++ 10 ∷ []))) ++ cut more
+    go : (t : Bool) → split_text (text ++ 10 ∷ more) ≡ split_text (text ++ 10 ∷ []) ++ split_text more → (if t then ([] ∷ split_text (text ++ 10 ∷ more)) else onto_first b (split_text (text ++ 10 ∷ more))) ≡ (if t then ([] ∷ split_text (text ++ 10 ∷ [])) else onto_first b (split_text (text ++ 10 ∷ []))) ++ split_text more
     go true same = ap (λ (ls : List (List ℕ)). [] ∷ ls) same
     go false same =
-        let some = cut_some text in
+        let some = split_some text in
         ap (onto_first b) same
-        ∙ ap (λ (ls : List (List ℕ)). onto_first b (ls ++ cut more)) some.2
-        ∙ ap (λ (ls : List (List ℕ)). onto_first b ls ++ cut more) (sym some.2)
+        ∙ ap (λ (ls : List (List ℕ)). onto_first b (ls ++ split_text more)) some.2
+        ∙ ap (λ (ls : List (List ℕ)). onto_first b ls ++ split_text more) (sym some.2)
 
 spans_onto : (c : ℕ) (first : List ℕ) (lines : List (List ℕ)) → spans (onto_first c (first ∷ lines)) ≡ suc (spans (first ∷ lines))
 spans_onto c first lines = omega arith
 
-pub spans_ended : (text : List ℕ) → spans (cut (text ++ 10 ∷ [])) ≡ length text + 1
+pub spans_ended : (text : List ℕ) → spans (split_text (text ++ 10 ∷ [])) ≡ length text + 1
 spans_ended [] = refl
 spans_ended (b ∷ text) = go (b == 10) (spans_ended text)
   where
-    go : (t : Bool) → spans (cut (text ++ 10 ∷ [])) ≡ length text + 1 → spans (if t then ([] ∷ cut (text ++ 10 ∷ [])) else onto_first b (cut (text ++ 10 ∷ []))) ≡ length (b ∷ text) + 1
+    go : (t : Bool) → spans (split_text (text ++ 10 ∷ [])) ≡ length text + 1 → spans (if t then ([] ∷ split_text (text ++ 10 ∷ [])) else onto_first b (split_text (text ++ 10 ∷ []))) ≡ length (b ∷ text) + 1
     go true same = omega (arith, same)
     go false same =
-        let some = cut_some text in
-        let onto : spans (onto_first b (cut (text ++ 10 ∷ []))) ≡ suc (spans (cut (text ++ 10 ∷ []))) = ap (λ (ls : List (List ℕ)). spans (onto_first b ls)) some.2 ∙ spans_onto b some.0 some.1 ∙ ap (λ (ls : List (List ℕ)). suc (spans ls)) (sym some.2) in
+        let some = split_some text in
+        let onto : spans (onto_first b (split_text (text ++ 10 ∷ []))) ≡ suc (spans (split_text (text ++ 10 ∷ []))) = ap (λ (ls : List (List ℕ)). spans (onto_first b ls)) some.2 ∙ spans_onto b some.0 some.1 ∙ ap (λ (ls : List (List ℕ)). suc (spans ls)) (sym some.2) in
         onto ∙ omega (arith, same)
 
 -- the lines of a text to which one LF is added are its own, and maybe an empty one
-pub ended_lines : (text : List ℕ) → (cut (text ++ 10 ∷ []) ≡ cut text) ⊎ (cut (text ++ 10 ∷ []) ≡ cut text ++ [] ∷ [])
+pub ended_lines : (text : List ℕ) → (split_text (text ++ 10 ∷ []) ≡ split_text text) ⊎ (split_text (text ++ 10 ∷ []) ≡ split_text text ++ [] ∷ [])
 ended_lines [] = inr refl
 ended_lines (b ∷ text) = go (b == 10) (ended_lines text)
   where
-    onto : (ls : List (List ℕ)) → cut (text ++ 10 ∷ []) ≡ ls ++ [] ∷ [] → (onto_first b (cut (text ++ 10 ∷ [])) ≡ onto_first b ls) ⊎ (onto_first b (cut (text ++ 10 ∷ [])) ≡ onto_first b ls ++ [] ∷ [])
+    onto : (ls : List (List ℕ)) → split_text (text ++ 10 ∷ []) ≡ ls ++ [] ∷ [] → (onto_first b (split_text (text ++ 10 ∷ [])) ≡ onto_first b ls) ⊎ (onto_first b (split_text (text ++ 10 ∷ [])) ≡ onto_first b ls ++ [] ∷ [])
     onto [] same = inl (ap (onto_first b) same)
     onto (l ∷ ls) same = inr (ap (onto_first b) same)
 
-    go : (t : Bool) → (cut (text ++ 10 ∷ []) ≡ cut text) ⊎ (cut (text ++ 10 ∷ []) ≡ cut text ++ [] ∷ [])
-        → ((if t then ([] ∷ cut (text ++ 10 ∷ [])) else onto_first b (cut (text ++ 10 ∷ []))) ≡ (if t then ([] ∷ cut text) else onto_first b (cut text))) ⊎ ((if t then ([] ∷ cut (text ++ 10 ∷ [])) else onto_first b (cut (text ++ 10 ∷ []))) ≡ (if t then ([] ∷ cut text) else onto_first b (cut text)) ++ [] ∷ [])
+    go : (t : Bool) → (split_text (text ++ 10 ∷ []) ≡ split_text text) ⊎ (split_text (text ++ 10 ∷ []) ≡ split_text text ++ [] ∷ [])
+        → ((if t then ([] ∷ split_text (text ++ 10 ∷ [])) else onto_first b (split_text (text ++ 10 ∷ []))) ≡ (if t then ([] ∷ split_text text) else onto_first b (split_text text))) ⊎ ((if t then ([] ∷ split_text (text ++ 10 ∷ [])) else onto_first b (split_text (text ++ 10 ∷ []))) ≡ (if t then ([] ∷ split_text text) else onto_first b (split_text text)) ++ [] ∷ [])
     go true (inl same) = inl (ap (λ (ls : List (List ℕ)). [] ∷ ls) same)
     go true (inr same) = inr (ap (λ (ls : List (List ℕ)). [] ∷ ls) same)
     go false (inl same) = inl (ap (onto_first b) same)
-    go false (inr same) = onto (cut text) same
+    go false (inr same) = onto (split_text text) same
 
 -- ---- lines that are given by their words
 
-pub cut_one : (line rest : List ℕ) → list_all (λ b. not (b == 10)) line ≡ true → cut (line ++ 10 ∷ rest) ≡ line ∷ cut rest
-cut_one [] rest none = refl
-cut_one (b ∷ line) rest none =
+pub split_one : (line rest : List ℕ) → list_all (λ b. not (b == 10)) line ≡ true → split_text (line ++ 10 ∷ rest) ≡ line ∷ split_text rest
+split_one [] rest none = refl
+split_one (b ∷ line) rest none =
     let parts = both (not (b == 10)) (list_all (λ b. not (b == 10)) line) none in
     let other : (b == 10) ≡ false = grind (arith, nat_tests, parts.0) in
-    rw (other, cut_one line rest parts.1) refl
+    rw (other, split_one line rest parts.1) refl
 
-pub cut_line : (words : List (List ℕ)) (rest : List ℕ) → AreWords words → cut (line_text words ++ rest) ≡ joined words ∷ cut rest
-cut_line words rest are = ap cut (append_assoc (joined words) (10 ∷ []) rest) ∙ cut_one (joined words) rest (joined_feeds words are)
+pub split_line : (words : List (List ℕ)) (rest : List ℕ) → AreWords words → split_text (line_text words ++ rest) ≡ joined words ∷ split_text rest
+split_line words rest are = ap split_text (append_assoc (joined words) (10 ∷ []) rest) ∙ split_one (joined words) rest (joined_feeds words are)
 
-pub cut_lines : (lines : List (List (List ℕ))) (rest : List ℕ) → AreLines lines → cut (text_of lines ++ rest) ≡ map joined lines ++ cut rest
-cut_lines [] rest are = refl
-cut_lines (words ∷ lines) rest are =
-    ap (λ (t : List ℕ). cut (t ++ rest)) (flat_map-cons line_text words lines)
-    ∙ ap cut (append_assoc (line_text words) (text_of lines) rest)
-    ∙ cut_line words (text_of lines ++ rest) are.0
-    ∙ ap (λ (ls : List (List ℕ)). joined words ∷ ls) (cut_lines lines rest are.1)
+pub split_all_lines : (lines : List (List (List ℕ))) (rest : List ℕ) → AreLines lines → split_text (text_of lines ++ rest) ≡ map joined lines ++ split_text rest
+split_all_lines [] rest are = refl
+split_all_lines (words ∷ lines) rest are =
+    ap (λ (t : List ℕ). split_text (t ++ rest)) (flat_map-cons line_text words lines)
+    ∙ ap split_text (append_assoc (line_text words) (text_of lines) rest)
+    ∙ split_line words (text_of lines ++ rest) are.0
+    ∙ ap (λ (ls : List (List ℕ)). joined words ∷ ls) (split_all_lines lines rest are.1)
 
 -- the digits of a number are a word
 pub decimal_word : (n : ℕ) → n < 2 ^ 64 → ((length (decimal n) == 0) ≡ false) × (list_all is_graphic (decimal n) ≡ true)
 decimal_word n fits =
     let some : (length (decimal n) == 0) ≡ false = grind (arith, nat_tests, decimal_nonempty n fits) in
-    (some, digits_marks (decimal n) (digits_decimal own n fits))
+    (some, digits_graphic (decimal n) (digits_decimal own n fits))
 
--- ---- the place that is found
+-- ---- the index that is found
 
 pub found : (word : List ℕ) (line : List ℕ) (lines : List (List ℕ)) (byte number : ℕ) → begins_with word line ≡ true → begin_from word byte number (line ∷ lines) ≡ Some (byte, number)
 found word line lines byte number is = ap (λ (t : Bool). if t then Some (byte, number) else begin_from word (byte + (length line + 1)) (number + 1) lines) is
@@ -126,19 +126,19 @@ found word line lines byte number is = ap (λ (t : Bool). if t then Some (byte, 
 none-append : (word : List ℕ) (lines : List (List ℕ)) → none_begins word lines ≡ true → none_begins word (lines ++ [] ∷ []) ≡ true
 none-append word lines none = grind (arith, common_steps)
 
-pub ended_free : (word text : List ℕ) → none_begins word (cut text) ≡ true → none_begins word (cut (text ++ 10 ∷ [])) ≡ true
+pub ended_free : (word text : List ℕ) → none_begins word (split_text text) ≡ true → none_begins word (split_text (text ++ 10 ∷ [])) ≡ true
 ended_free word text none = go (ended_lines text)
   where
-    go : (cut (text ++ 10 ∷ []) ≡ cut text) ⊎ (cut (text ++ 10 ∷ []) ≡ cut text ++ [] ∷ []) → none_begins word (cut (text ++ 10 ∷ [])) ≡ true
+    go : (split_text (text ++ 10 ∷ []) ≡ split_text text) ⊎ (split_text (text ++ 10 ∷ []) ≡ split_text text ++ [] ∷ []) → none_begins word (split_text (text ++ 10 ∷ [])) ≡ true
     go (inl same) = ap (none_begins word) same ∙ none
-    go (inr same) = ap (none_begins word) same ∙ none-append word (cut text) none
+    go (inr same) = ap (none_begins word) same ∙ none-append word (split_text text) none
 
 pub part_is : (text behind : List ℕ) → 0 < length behind → part_before (length text + 1) (text ++ 10 ∷ behind) ≡ text
 part_is text behind some =
     let inside : nat_lt (length text + 1) (length (text ++ 10 ∷ behind)) ≡ true = grind (arith, nat_tests, common_steps) in
-    let place : (length text + 1) - 1 ≡ length text = omega arith in
+    let index : (length text + 1) - 1 ≡ length text = omega arith in
     ap (λ (t : Bool). if t then take ((length text + 1) - 1) (text ++ 10 ∷ behind) else text ++ 10 ∷ behind) inside
-    ∙ ap (λ (n : ℕ). take n (text ++ 10 ∷ behind)) place
+    ∙ ap (λ (n : ℕ). take n (text ++ 10 ∷ behind)) index
     ∙ take-append_seam text (10 ∷ behind)
 
 pub out_is : (text behind : List ℕ) → drop (length text + 1) (text ++ 10 ∷ behind) ≡ behind

@@ -1,7 +1,7 @@
 -- What a record's text says, apart from reading: no codes, and no order of looking.
 use Rattle.std.specs.Prelude.{◌≡◌, ◌≤◌, ℕ, ◌+◌, true, List, [], ◌∷◌, ◌++◌, length, Some, codes}
 use Rattle.ccr_base.specs.Bounds.{most_wiring_bytes, most_workers}
-use Rattle.ccr_text.specs.Lines.{cut}
+use Rattle.ccr_text.specs.Lines.{split_text}
 use Rattle.ccr_text.specs.Words.{is_clean, number_of, words_of, IsSkipped}
 use Rattle.ccr_wiretext.specs.Lines.{IsText}
 use Rattle.ccr_replay.specs.TurnGrammar.{AreTurns}
@@ -44,4 +44,4 @@ pub record Says (text : List ℕ) (said : Record) : Type 0 where
   pub whole : text ≡ wiring_text ++ 10 ∷ behind
   pub short : length wiring_text ≤ most_wiring_bytes
   pub wiring : IsText wiring_text said.wiring
-  pub lines : AreRecord (length said.wiring.posters) said.workers said.turns (cut behind)
+  pub lines : AreRecord (length said.wiring.posters) said.workers said.turns (split_text behind)

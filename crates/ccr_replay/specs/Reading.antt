@@ -3,7 +3,7 @@ use Rattle.std.specs.Prelude.{ℕ, ◌+◌, ◌-◌, ◌==◌, max, nat_le, nat_
 use Rattle.std.specs.Str.{bytes_eq}
 use Rattle.ccr_base.specs.Bounds.{most_wiring_bytes, most_workers}
 use Rattle.ccr_text.specs.declared.lines.Line.{Line}
-use Rattle.ccr_text.specs.Lines.{cut, line_of, numbered, numbered_line}
+use Rattle.ccr_text.specs.Lines.{split_text, find_line, numbered, numbered_line}
 use Rattle.ccr_text.specs.Fields.{Words, ◌>>=◌, word, no_more, unless, or_code}
 use Rattle.ccr_text.specs.Words.{is_comment, number_of}
 use Rattle.ccr_wiring.specs.Actors.{actor_count}
@@ -15,8 +15,8 @@ use Rattle.ccr_replay.specs.declared.records.Record.{Record}
 -- ---- what stands where
 
 -- the line that opens with `record`: the byte it begins at and the lines before it; where there is none, the end of the text and all its lines
-abbrev pub record_place : List ℕ → ℕ × ℕ
-record_place bytes = line_of bytes (codes "record")
+abbrev pub record_index : List ℕ → ℕ × ℕ
+record_index bytes = find_line bytes (codes "record")
 
 -- what stands before the line that begins at this byte, less the LF at its end; the whole text where there is no such line
 abbrev pub part_before : ℕ → List ℕ → List ℕ
@@ -24,11 +24,11 @@ part_before index bytes = if nat_lt index (length bytes) then take (index - 1) b
 
 -- the text of the wiring that was recorded
 abbrev pub recorded_wiring : List ℕ → List ℕ
-recorded_wiring bytes = part_before (record_place bytes).0 bytes
+recorded_wiring bytes = part_before (record_index bytes).0 bytes
 
 -- the line of the record and all behind it
 abbrev pub recorded_turns : List ℕ → List ℕ
-recorded_turns bytes = drop (record_place bytes).0 bytes
+recorded_turns bytes = drop (record_index bytes).0 bytes
 
 -- what stands behind the first LF
 abbrev pub after_feed : List ℕ → List ℕ
@@ -36,8 +36,8 @@ after_feed [] = []
 after_feed (b ∷ bytes) = if b == 10 then bytes else after_feed bytes
 
 -- where the first line begins whose first word is `done`, and how many lines stand before it
-abbrev pub done_place : List ℕ → ℕ × ℕ
-done_place bytes = line_of bytes (codes "done")
+abbrev pub done_index : List ℕ → ℕ × ℕ
+done_index bytes = find_line bytes (codes "done")
 
 -- ---- the wiring
 
@@ -115,8 +115,8 @@ ending last (line ∷ lines) = and_then (on_line (last + 1) (done_on (numbered_l
 -- what stands behind the line of the record, which has this number: turns up to the first line `done`, then that one and skipped ones
 abbrev pub turns_behind : ℕ → ℕ → List ℕ → Result (List ℕ) (ℕ × ℕ)
 turns_behind actors number bytes =
-    and_then (reading_turns (take (done_place bytes).0 bytes) number actors)
-    (λ turns. and_then (ending (number + (done_place bytes).1) (cut (drop (done_place bytes).0 bytes))) (λ done. Ok turns))
+    and_then (reading_turns (take (done_index bytes).0 bytes) number actors)
+    (λ turns. and_then (ending (number + (done_index bytes).1) (split_text (drop (done_index bytes).0 bytes))) (λ done. Ok turns))
 
 -- the record of this wiring and so many workers, which stands behind their line
 abbrev pub record_behind : Parts → ℕ → ℕ → List ℕ → Result Record (ℕ × ℕ)
@@ -131,8 +131,8 @@ reading_lines wiring before bytes (line ∷ lines) =
 
 -- the record of this wiring that stands in these bytes, behind so many lines
 abbrev pub reading_behind : Parts → ℕ → List ℕ → Result Record (ℕ × ℕ)
-reading_behind wiring before bytes = reading_lines wiring before bytes (cut bytes)
+reading_behind wiring before bytes = reading_lines wiring before bytes (split_text bytes)
 
 -- the record that a text says, or its first offending line and the code
 abbrev pub reading_record : List ℕ → Result Record (ℕ × ℕ)
-reading_record bytes = and_then (reading_part (recorded_wiring bytes)) (λ wiring. reading_behind wiring (record_place bytes).1 (recorded_turns bytes))
+reading_record bytes = and_then (reading_part (recorded_wiring bytes)) (λ wiring. reading_behind wiring (record_index bytes).1 (recorded_turns bytes))

@@ -10,7 +10,7 @@ use Rattle.ccr_base.specs.declared.tasks.How.{How}
 use Rattle.ccr_base.specs.declared.tasks.How.TheVariants as hows
 use Rattle.ccr_text.specs.Spelling.{text_of}
 use Rattle.ccr_wiring.specs.declared.parts.Parts.{Parts}
-use Rattle.ccr_wiretext.specs.Spelling.{port_name, queue_name, arbiter_name}
+use Rattle.ccr_wiring.specs.PartNames.{port_name, queue_name, arbiter_name}
 use Rattle.ccr_trace.specs.Words.{task_word, message_word, branch_names, spot_word}
 use Rattle.ccr_trace.specs.HistoryText.{dropped_words}
 use Rattle.ccr_text.specs.Exact.{value_word}

@@ -1,6 +1,6 @@
 -- What turn lines say, apart from reading: no codes, and no order of looking.
 use Rattle.std.specs.Prelude.{◌≡◌, ◌<◌, ◌⊎◌, ℕ, true, List, [], ◌∷◌, Some, codes}
-use Rattle.ccr_text.specs.Lines.{cut}
+use Rattle.ccr_text.specs.Lines.{split_text}
 use Rattle.ccr_text.specs.Fields.{Words}
 use Rattle.ccr_text.specs.Words.{is_clean, number_of, words_of, IsSkipped}
 
@@ -19,4 +19,4 @@ AreTurns actors (line ∷ lines) turns = (is_clean line ≡ true) × ((IsSkipped
 
 -- the text says these turns to so many actors
 abbrev pub Says : List ℕ → ℕ → List ℕ → Type 0
-Says text actors turns = AreTurns actors (cut text) turns
+Says text actors turns = AreTurns actors (split_text text) turns

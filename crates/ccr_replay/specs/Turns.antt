@@ -2,7 +2,7 @@
 use Rattle.std.specs.Prelude.{ℕ, ◌+◌, List, [], ◌∷◌, ◌++◌, Option, Some, None, Result, Ok, Err, nat_lt, if◌then◌else◌, codes}
 use Rattle.std.specs.Str.{bytes_eq}
 use Rattle.ccr_text.specs.declared.lines.Line.{Line}
-use Rattle.ccr_text.specs.Lines.{cut, numbered}
+use Rattle.ccr_text.specs.Lines.{split_text, numbered}
 use Rattle.ccr_text.specs.Fields.{Words, ◌>>=◌, word, no_more, unless, or_code}
 use Rattle.ccr_text.specs.Words.{is_comment, number_of}
 
@@ -49,4 +49,4 @@ turns_on actors (line ∷ lines) = elim (turn_on actors line) [ Ok turn ↦ onto
 
 -- the turns that a text says, behind so many lines and to so many actors; or its first offending line and the code
 abbrev pub reading_turns : List ℕ → ℕ → ℕ → Result (List ℕ) (ℕ × ℕ)
-reading_turns text lines_before actors = turns_on actors (numbered (lines_before + 1) (cut text))
+reading_turns text lines_before actors = turns_on actors (numbered (lines_before + 1) (split_text text))

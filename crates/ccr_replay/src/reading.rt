@@ -2,7 +2,8 @@
 
 ghost use Rattle.std.specs.Prelude.{◌≡◌, ◌≢◌, ◌≤◌, ◌<◌, ◌+◌, [], ◌∷◌, All, length, IfErr, IfOk};
 ghost use Rattle.ccr_base.specs.Bounds.{most_bytes, most_wiring_bytes, most_workers};
-ghost use Rattle.ccr_text.specs.Lines.{cut, numbered};
+ghost use Rattle.ccr_text.specs.Lines.{split_text, numbered};
+ghost use Rattle.ccr_wiring.specs.Actors.{actor_count};
 ghost use Rattle.ccr_wiretext.specs.Answers.{IsReading};
 ghost use Rattle.ccr_replay.specs.Answers.{SaysNothing};
 ghost use Rattle.ccr_replay.specs.Grammar.{Says};
@@ -15,7 +16,7 @@ use crate::records::Record;
 use crate::refusals::{RecordCode, refused};
 use ccr_actor::actor_count;
 use ccr_base::{ActorNo, List};
-use ccr_text::{cut_line, line_of, numbered_line};
+use ccr_text::{find_line, numbered_line, split_line};
 use ccr_wiretext::{MAX_WIRING_TEXT, ReadRefused, read_wiring};
 use ccr_wiring::Wiring;
 use std::alloc::Global;
@@ -51,12 +52,12 @@ pub fn read_part(alloc: Global, part: &[u8]) -> Result<Wiring, ReadRefused>
 fn read_skipped(alloc: Global, text: &[u8], before: u32) -> Result<(), ReadRefused>
     requires text { length text.now ≤ most_bytes }
     requires before { before ≤ most_lines_before }
-    ensures { IsReading result (skipped_lines (numbered (before + 1) (cut text.now))) }
+    ensures { IsReading result (skipped_lines (numbered (before + 1) (split_text text.now))) }
 {
     let mut rest = text;
     let mut number = before;
     'lines: while !rest.is_empty() {
-        let (bytes, after) = cut_line(rest);
+        let (bytes, after) = split_line(rest);
         number += 1;
         let Ok(line) = numbered_line(alloc, number, bytes) else {
             return Err(ReadRefused::Memory);
@@ -73,12 +74,12 @@ fn read_skipped(alloc: Global, text: &[u8], before: u32) -> Result<(), ReadRefus
 fn read_ending(alloc: Global, text: &[u8], before: u32) -> Result<(), ReadRefused>
     requires text { length text.now ≤ most_bytes }
     requires before { before < most_lines_before }
-    ensures { IsReading result (ending before (cut text.now)) }
+    ensures { IsReading result (ending before (split_text text.now)) }
 {
     if text.is_empty() {
         return Err(refused(before, RecordCode::Ending));
     }
-    let (bytes, after) = cut_line(text);
+    let (bytes, after) = split_line(text);
     let Ok(line) = numbered_line(alloc, before + 1, bytes) else {
         return Err(ReadRefused::Memory);
     };
@@ -100,7 +101,7 @@ fn read_turns_behind(
     ensures turns { IsReading result (turns_behind actors before text.now) }
     ensures below { IfOk result (λ turns. All (λ actor. actor < actors) turns) }
 {
-    let (index, count) = line_of(text, b"done");
+    let (index, count) = find_line(text, b"done");
     let turns = match read_turns(alloc, &text[..index], before, actors) {
         Ok(turns) => turns,
         Err(why) => return Err(why),
@@ -124,7 +125,7 @@ fn read_record_behind(
     requires workers { workers ≤ most_workers }
     ensures reading { IsReading result (record_behind wiring before workers text.now) }
     ensures workers { IfOk result (λ read. read.workers ≤ most_workers) }
-    ensures turns { IfOk result (λ read. All (λ actor. actor < length read.wiring.posters + read.workers) read.turns) }
+    ensures turns { IfOk result (λ read. All (λ actor. actor < actor_count read.wiring read.workers) read.turns) }
 {
     let actors = actor_count(&wiring, workers);
     match read_turns_behind(alloc, text, before, actors) {
@@ -148,7 +149,7 @@ fn read_behind(
     requires before { before ≤ most_bytes }
     ensures reading { IsReading result (reading_behind wiring before text.now) }
     ensures workers { IfOk result (λ read. read.workers ≤ most_workers) }
-    ensures turns { IfOk result (λ read. All (λ actor. actor < length read.wiring.posters + read.workers) read.turns) }
+    ensures turns { IfOk result (λ read. All (λ actor. actor < actor_count read.wiring read.workers) read.turns) }
 {
     if text.is_empty() {
         return Err(refused(before.max(1), RecordCode::NoRecord));
@@ -166,11 +167,11 @@ fn read_behind(
 /// The first line of a text that isn't empty, and what follows its LF.
 fn first_line(text: &[u8]) -> (&[u8], &[u8])
     requires { text.now ≢ [] }
-    ensures first { cut text.now ≡ result.0.now ∷ cut result.1.now }
+    ensures first { split_text text.now ≡ result.0.now ∷ split_text result.1.now }
     ensures after { result.1.now ≡ after_feed text.now }
     ensures shorter { length result.1.now ≤ length text.now }
 {
-    let (line, after) = cut_line(text);
+    let (line, after) = split_line(text);
     match after {
         Some(rest) => (line, rest),
         None => (line, &[]),
@@ -193,9 +194,9 @@ fn read_text(alloc: Global, text: &[u8]) -> Result<Record, ReadRefused>
     requires { length text.now ≤ most_bytes }
     ensures reading { IsReading result (reading_record text.now) }
     ensures workers { IfOk result (λ read. read.workers ≤ most_workers) }
-    ensures turns { IfOk result (λ read. All (λ actor. actor < length read.wiring.posters + read.workers) read.turns) }
+    ensures turns { IfOk result (λ read. All (λ actor. actor < actor_count read.wiring read.workers) read.turns) }
 {
-    let (index, before) = line_of(text, b"record");
+    let (index, before) = find_line(text, b"record");
     match read_part(alloc, part_before(text, index)) {
         Ok(wiring) => read_behind(alloc, wiring, &text[index..], before),
         Err(why) => Err(why),
@@ -211,7 +212,7 @@ pub fn read_record(alloc: Global, text: &[u8]) -> Result<Record, ReadRefused>
     ensures grammar { IfOk result (Says text.now) }
     ensures refused { IfErr result (SaysNothing text.now) }
     ensures workers { IfOk result (λ read. read.workers ≤ most_workers) }
-    ensures turns { IfOk result (λ read. All (λ actor. actor < length read.wiring.posters + read.workers) read.turns) }
+    ensures turns { IfOk result (λ read. All (λ actor. actor < actor_count read.wiring read.workers) read.turns) }
 {
     read_text(alloc, text)
 }

@@ -1,12 +1,12 @@
 //! The schedule of a run.
 
-ghost use Rattle.std.specs.Prelude.{◌≡◌, ◌≤◌, ◌<◌, All, true, false, IfOk, IfSome, Ok, None};
+ghost use Rattle.std.specs.Prelude.{◌≡◌, ◌≤◌, IfOk, IfSome, Ok, None};
 ghost use Rattle.ccr_base.specs.Bounds.{most_workers};
 ghost use Rattle.ccr_replay.specs.Schedules.{schedule, IsOfNextSteps};
 
 use crate::laws::schedules_give_runs_again;
 use crate::same::are_same;
-use ccr_actor::actor_count;
+use ccr_actor::{actor_count, are_below};
 use ccr_base::{ActorNo, List, OutOfMemory};
 use ccr_net::run_schedule;
 use ccr_runs::{Entry, Full};
@@ -22,14 +22,6 @@ fn actors_of(alloc: Global, entries: &[Entry]) -> Result<Vec<ActorNo>, OutOfMemo
         actors.push(entry.actor)?;
     }
     Ok(actors)
-}
-
-/// Whether each is the number of one of so many actors.
-fn are_below(actors: &[ActorNo], count: u32) -> bool
-    ensures yes { result ≡ true → All (λ actor. actor < count) actors.now }
-    ensures no { result ≡ false → All (λ actor. actor < count) actors.now → ⊥ }
-{
-    actors.iter().all(|actor| *actor < count)
 }
 
 /// The actors of the entries, in order, where these are a run in which each step of each actor is its next one; then that

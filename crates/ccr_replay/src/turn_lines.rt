@@ -11,7 +11,7 @@ ghost use Rattle.ccr_replay.specs.TurnGrammar.{Says};
 use crate::refusals::refused;
 use crate::turns::turn_on;
 use ccr_base::{ActorNo, List, OutOfMemory};
-use ccr_text::{cut_line, numbered_line};
+use ccr_text::{numbered_line, split_line};
 use ccr_wiretext::ReadRefused;
 use std::alloc::Global;
 
@@ -39,7 +39,7 @@ fn read_lines(
     let mut rest = text;
     let mut number = lines_before;
     'lines: while !rest.is_empty() {
-        let (bytes, after) = cut_line(rest);
+        let (bytes, after) = split_line(rest);
         number += 1;
         let Ok(line) = numbered_line(alloc, number, bytes) else {
             return Err(ReadRefused::Memory);

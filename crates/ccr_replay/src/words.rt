@@ -9,8 +9,7 @@ use ccr_base::{By, How, List, Name, OutOfMemory, Place, Spot, TaskId};
 use ccr_places::{ClaimNote, Note};
 use ccr_text::put_bytes;
 use ccr_trace::{put_message, put_number_word, put_task, put_value, put_word};
-use ccr_wiretext::{arbiter_name, port_name, queue_name};
-use ccr_wiring::{Parts, put_spot_word};
+use ccr_wiring::{Parts, arbiter_name, port_name, put_spot_word, queue_name};
 
 /// Adds the digits of a stamp.
 pub fn put_stamp(out: &mut List<u8>, stamp: u128) -> Result<(), OutOfMemory>

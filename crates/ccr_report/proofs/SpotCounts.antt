@@ -3,7 +3,6 @@ use Rattle.std.proofs.Common.{◌≡◌, ◌+◌, ◌≤◌, ◌<◌, ℕ, Bool,
 use Rattle.std.specs.Prelude.{unwrap_or}
 use Rattle.std.specs.Map.{lookup}
 use Rattle.std.proofs.lemmas.List.{take_more}
-use Rattle.std.proofs.lemmas.Bool.Decides.{nat_tests}
 use Rattle.std.proofs.lemmas.Grind.{common_steps}
 use Rattle.ccr_base.specs.declared.names.Spot.{Spot}
 use Rattle.ccr_base.specs.declared.names.Spot.TheVariants.{Branch, Site}
@@ -12,6 +11,7 @@ use Rattle.ccr_model.specs.declared.history.Event.{Event}
 use Rattle.ccr_model.specs.declared.history.Event.TheVariants.{Post, Fire, Admit, Put, Start, End}
 use Rattle.ccr_model.specs.Firings.{Firing, fired_at}
 use Rattle.ccr_base.specs.contracts.names.SpotPartialEq.TheImpl.{ghosts as spots}
+use Rattle.ccr_model.proofs.SameNames.{same_spot-is}
 use Rattle.ccr_report.proofs.SameNames.{lookup_same}
 
 -- the derived comparison of spots is the test of them
@@ -20,12 +20,6 @@ derived_spot (Branch b) (Branch c) = refl
 derived_spot (Branch b) (Site c l) = refl
 derived_spot (Site b k) (Branch c) = refl
 derived_spot (Site b k) (Site c l) = refl
-
-pub same_spot-true : (s t : Spot) → same_spot s t ≡ true → s ≡ t
-same_spot-true (Branch b) (Branch c) same = grind (arith, nat_tests, same)
-same_spot-true (Branch b) (Site c l) same = cc
-same_spot-true (Site b k) (Branch c) same = cc
-same_spot-true (Site b k) (Site c l) same = grind (arith, nat_tests, same)
 
 -- the count of a spot, after a firing at one spot
 pub spot_counted : (old new : List (Spot × ℕ)) (k q : Spot) (n : ℕ) → n ≡ unwrap_or (lookup (same_spot k) old) 0 → lookup (spots.eq q) new ≡ cond (spots.eq k q) (Some (n + 1)) (lookup (spots.eq q) old) → unwrap_or (lookup (same_spot q) new) 0 ≡ unwrap_or (lookup (same_spot q) old) 0 + cond (same_spot k q) 1 0
@@ -39,7 +33,7 @@ spot_counted old new k q n is updates =
     ap (λ (o : Option ℕ). unwrap_or o 0) found ∙ of_test (same_spot k q) refl
   where
     of_test : (b : Bool) → same_spot k q ≡ b → unwrap_or (cond b (Some (n + 1)) (lookup (same_spot q) old)) 0 ≡ unwrap_or (lookup (same_spot q) old) 0 + cond b 1 0
-    of_test true same = ap (λ (m : ℕ). m + 1) (is ∙ ap (λ (spot : Spot). unwrap_or (lookup (same_spot spot) old) 0) (same_spot-true k q same))
+    of_test true same = ap (λ (m : ℕ). m + 1) (is ∙ ap (λ (spot : Spot). unwrap_or (lookup (same_spot spot) old) 0) (same_spot-is k q same))
     of_test false same = omega arith
 
 pub fired_at-append : (events more : List Event) (spot : Spot) → length (fired_at (events ++ more) spot) ≡ length (fired_at events spot) + length (fired_at more spot)

@@ -5,6 +5,7 @@ use Rattle.std.specs.List.{slice_get}
 use Rattle.std.specs.Option.{option_map_or}
 use Rattle.std.proofs.lemmas.Grind.{common_steps}
 use Rattle.std.proofs.lemmas.List.Filters.{length-filter_both}
+use Rattle.std.proofs.lemmas.List.Sums.{length-filter}
 use Rattle.ccr_base.specs.declared.messages.Msg.{Msg}
 use Rattle.ccr_base.specs.declared.names.TaskId.{TaskId}
 use Rattle.ccr_base.specs.declared.names.Spot.{Spot}
@@ -13,23 +14,34 @@ use Rattle.ccr_wiring.specs.declared.parts.Parts.{Parts}
 use Rattle.ccr_wiring.specs.declared.parts.ArbiterPart.{ArbiterPart}
 use Rattle.ccr_wiring.specs.declared.parts.BranchPart.{BranchPart}
 use Rattle.ccr_wiring.specs.declared.parts.DomainPart.{DomainPart}
+use Rattle.ccr_wiring.specs.Spots.{times}
 use Rattle.ccr_wiring.specs.Wirings.{Placement, placement, placements, placements_of, placements_from, in_domain, branch_of}
 use Rattle.ccr_model.specs.declared.history.Event.{Event}
 use Rattle.ccr_model.specs.Posts.{posts, posted, taken, held}
 use Rattle.ccr_model.specs.Firings.{spot_of}
 use Rattle.ccr_model.specs.Tasks.{is_for_queue}
 use Rattle.ccr_base.proofs.Filters.{filter_swap}
-use Rattle.ccr_report.specs.Counting.{times, taken_at, ports_of, queues_in, branch_queues}
+use Rattle.ccr_report.specs.Counting.{taken_at, ports_of, queues_in, branch_queues}
 pub use Rattle.std.proofs.lemmas.List.{map-append as map-both}
 
+-- the number's own places in the list
+abbrev same : ℕ → List ℕ → List ℕ
+same k numbers = filter (λ other. other == k) numbers
+
+times-same : (k : ℕ) (numbers : List ℕ) → times k numbers ≡ length (same k numbers)
+times-same k numbers = sym (length-filter (λ other. other == k) numbers)
+
 -- numbers that are counted belong to members that pass a test
-pub times-map : {X : Type 0} (f : X → ℕ) (k : ℕ) (xs : List X) → times k (map f xs) ≡ length (filter (λ x. f x == k) xs)
-times-map f k [] = refl
-times-map f k (x ∷ xs) = of_test (f x == k) (times-map f k xs)
+same-map : {X : Type 0} (f : X → ℕ) (k : ℕ) (xs : List X) → length (same k (map f xs)) ≡ length (filter (λ x. f x == k) xs)
+same-map f k [] = refl
+same-map f k (x ∷ xs) = of_test (f x == k) (same-map f k xs)
   where
-    of_test : (b : Bool) → times k (map f xs) ≡ length (filter (λ x. f x == k) xs) → length (cond b (f x ∷ filter (λ other. other == k) (map f xs)) (filter (λ other. other == k) (map f xs))) ≡ length (cond b (x ∷ filter (λ x. f x == k) xs) (filter (λ x. f x == k) xs))
+    of_test : (b : Bool) → length (same k (map f xs)) ≡ length (filter (λ x. f x == k) xs) → length (cond b (f x ∷ filter (λ other. other == k) (map f xs)) (filter (λ other. other == k) (map f xs))) ≡ length (cond b (x ∷ filter (λ x. f x == k) xs) (filter (λ x. f x == k) xs))
     of_test true h = ap suc h
     of_test false h = h
+
+times-map : {X : Type 0} (f : X → ℕ) (k : ℕ) (xs : List X) → times k (map f xs) ≡ length (filter (λ x. f x == k) xs)
+times-map f k xs = times-same k (map f xs) ∙ same-map f k xs
 
 pub times-posted : (history : List Event) (k : ℕ) → times k (ports_of (posts history)) ≡ length (posted history k)
 times-posted history k = times-map (λ (message : Msg). message.port) k (posts history)
@@ -40,17 +52,20 @@ times-held history k =
     ∙ ap length (filter_swap (λ (message : Msg). message.port == k) (λ (message : Msg). not (has_message (taken history) message.id)) (posts history))
 
 -- the same, where some members have no number
-pub times-some : {X : Type 0} (f : X → Option ℕ) (test : X → Bool) (k : ℕ) → ((x : X) → test x ≡ option_map_or (λ n. n == k) (f x) false) → (xs : List X) → times k (flat_map (λ x. option_to_list (f x)) xs) ≡ length (filter test xs)
-times-some f test k says [] = refl
-times-some f test k says (x ∷ xs) = of_number (f x) (test x) (says x) (times-some f test k says xs)
+same-some : {X : Type 0} (f : X → Option ℕ) (test : X → Bool) (k : ℕ) → ((x : X) → test x ≡ option_map_or (λ n. n == k) (f x) false) → (xs : List X) → length (same k (flat_map (λ x. option_to_list (f x)) xs)) ≡ length (filter test xs)
+same-some f test k says [] = refl
+same-some f test k says (x ∷ xs) = of_number (f x) (test x) (says x) (same-some f test k says xs)
   where
-    of_number : (o : Option ℕ) (b : Bool) → b ≡ option_map_or (λ n. n == k) o false → times k (flat_map (λ x. option_to_list (f x)) xs) ≡ length (filter test xs) → times k (option_to_list o ++ flat_map (λ x. option_to_list (f x)) xs) ≡ length (cond b (x ∷ filter test xs) (filter test xs))
+    of_number : (o : Option ℕ) (b : Bool) → b ≡ option_map_or (λ n. n == k) o false → length (same k (flat_map (λ x. option_to_list (f x)) xs)) ≡ length (filter test xs) → length (same k (option_to_list o ++ flat_map (λ x. option_to_list (f x)) xs)) ≡ length (cond b (x ∷ filter test xs) (filter test xs))
     of_number None b e h = rw e h
     of_number (Some n) b e h = rw e (of_test (n == k) h)
       where
-        of_test : (a : Bool) → times k (flat_map (λ x. option_to_list (f x)) xs) ≡ length (filter test xs) → length (cond a (n ∷ filter (λ other. other == k) (flat_map (λ x. option_to_list (f x)) xs)) (filter (λ other. other == k) (flat_map (λ x. option_to_list (f x)) xs))) ≡ length (cond a (x ∷ filter test xs) (filter test xs))
+        of_test : (a : Bool) → length (same k (flat_map (λ x. option_to_list (f x)) xs)) ≡ length (filter test xs) → length (cond a (n ∷ filter (λ other. other == k) (flat_map (λ x. option_to_list (f x)) xs)) (filter (λ other. other == k) (flat_map (λ x. option_to_list (f x)) xs))) ≡ length (cond a (x ∷ filter test xs) (filter test xs))
         of_test true h = ap suc h
         of_test false h = h
+
+times-some : {X : Type 0} (f : X → Option ℕ) (test : X → Bool) (k : ℕ) → ((x : X) → test x ≡ option_map_or (λ n. n == k) (f x) false) → (xs : List X) → times k (flat_map (λ x. option_to_list (f x)) xs) ≡ length (filter test xs)
+times-some f test k says xs = times-same k (flat_map (λ x. option_to_list (f x)) xs) ∙ same-some f test k says xs
 
 pub placements_queues : (number : ℕ) (arbiter : ArbiterPart) (branches : List BranchPart) → map (λ (part : BranchPart). part.queue) branches ≡ map (λ (s : Placement). s.branch.queue) (map (λ branch. record { domain = number; kind = arbiter.kind; branch = branch }) branches)
 placements_queues number arbiter [] = refl

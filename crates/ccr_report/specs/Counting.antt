@@ -1,5 +1,5 @@
 -- What a report counts at a port and at a queue.
-use Rattle.std.specs.Prelude.{ℕ, ◌==◌, List, map, filter, flat_map, length, Option, option_map, option_to_list, option_and_then}
+use Rattle.std.specs.Prelude.{ℕ, List, map, filter, flat_map, Option, option_to_list, option_and_then}
 use Rattle.std.specs.List.{slice_get}
 use Rattle.ccr_base.specs.declared.names.TaskId.{TaskId}
 use Rattle.ccr_base.specs.declared.names.Spot.{Spot}
@@ -8,16 +8,11 @@ use Rattle.ccr_base.specs.Names.{has_message}
 use Rattle.ccr_wiring.specs.declared.parts.Parts.{Parts}
 use Rattle.ccr_wiring.specs.declared.parts.ArbiterPart.{ArbiterPart}
 use Rattle.ccr_wiring.specs.declared.parts.BranchPart.{BranchPart}
-use Rattle.ccr_wiring.specs.Wirings.{Placement, branch_of}
+use Rattle.ccr_wiring.specs.Wirings.{branch_of}
 use Rattle.ccr_model.specs.declared.history.Event.{Event}
 use Rattle.ccr_model.specs.Posts.{posted, taken}
 use Rattle.ccr_model.specs.Firings.{dropped}
-use Rattle.ccr_model.specs.TaskData.{placement_of}
 use Rattle.ccr_model.specs.Tasks.{is_for_queue}
-
--- how often a number stands in a list
-abbrev pub times : ℕ → List ℕ → ℕ
-times number numbers = length (filter (λ other. other == number) numbers)
 
 -- the port's messages that firings took
 abbrev pub taken_at : List Event → ℕ → List Msg
@@ -30,14 +25,6 @@ dropped_at wiring history queue = filter (is_for_queue wiring history queue) (dr
 -- the ports of messages
 abbrev pub ports_of : List Msg → List ℕ
 ports_of messages = map (λ (message : Msg). message.port) messages
-
--- the task's queue
-abbrev pub queue_of : Parts → List Event → TaskId → Option ℕ
-queue_of wiring history task = option_map (λ (s : Placement). s.branch.queue) (placement_of wiring history task)
-
--- the queues of tasks
-abbrev pub queues_of : Parts → List Event → List TaskId → List ℕ
-queues_of wiring history tasks = flat_map (λ task. option_to_list (queue_of wiring history task)) tasks
 
 -- the task's queue, by where it fired and by the queues of the branches
 abbrev pub queue_by : (TaskId → Option Spot) → List ℕ → TaskId → Option ℕ

@@ -3,8 +3,9 @@
 ghost use Rattle.std.specs.Prelude.{◌≡◌, ◌<◌, ℕ, IfOk, length, slice_index};
 ghost use Rattle.std.specs.HashMap.{get};
 ghost use Rattle.ccr_base.specs.Names.{same_task};
+ghost use Rattle.ccr_wiring.specs.Spots.{times};
 ghost use Rattle.ccr_model.specs.Posts.{posted, held};
-ghost use Rattle.ccr_report.specs.Counting.{times, dropped_at, branch_queues, queues_by};
+ghost use Rattle.ccr_report.specs.Counting.{dropped_at, branch_queues, queues_by};
 ghost use Rattle.ccr_model.specs.Tasks.{put_into};
 
 use crate::messages::{held_ports, posted_ports};

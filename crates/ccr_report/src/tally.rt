@@ -1,7 +1,7 @@
 //! How often each number stands in a list.
 
 ghost use Rattle.std.specs.Prelude.{◌≡◌, ◌<◌, ◌==◌, ◌+◌, ◌-◌, ◌^◌, ℕ, IfOk, length, slice_index, if◌then◌else◌};
-ghost use Rattle.ccr_report.specs.Counting.{times};
+ghost use Rattle.ccr_wiring.specs.Spots.{times};
 
 use ccr_base::OutOfMemory;
 use std::alloc::Global;

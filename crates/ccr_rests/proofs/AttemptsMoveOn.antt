@@ -2,6 +2,7 @@
 use Rattle.std.proofs.Common.{◌≡◌, ◌⊎◌, inl, inr, ℕ, ◌^◌, true, false, List, [], ◌∷◌, ◌++◌, flat_map, Option, Some, None, Ok, refl, sym, ap, subst, arith, ◌∙◌, append_assoc}
 use Rattle.std.specs.Prelude.{nat_lt}
 use Rattle.std.proofs.lemmas.Grind.{common_steps}
+use Rattle.std.proofs.lemmas.Option.{same_Some}
 use Rattle.ccr_base.specs.declared.names.Spot.{Spot}
 use Rattle.ccr_base.specs.declared.names.TaskId.{TaskId}
 use Rattle.ccr_base.specs.declared.tasks.Task.{Task}
@@ -24,7 +25,7 @@ use Rattle.ccr_actor.specs.Plans.{plan_of}
 use Rattle.ccr_actor.specs.Actors.{State, settle, drive, turn, name_at, asked, ask_in, settled, after_attempt, fire, give_up, after_in, after}
 use Rattle.ccr_rests.specs.Trials.{Trial, state_of, steps_of, Stretch, attempt, steps_in, GaveUp, Fired, IsOwn, IsDone, AreDone}
 use Rattle.ccr_rests.proofs.Answering.{IsWithin, state_more, steps_more, may_more}
-use Rattle.ccr_rests.proofs.Hands.{one_ask, IsOrdered, release_ordered, firing_ordered, IsBetween, done_alone, dropped_alone, is_heard, heard_alone}
+use Rattle.ccr_rests.proofs.Hands.{IsOrdered, release_ordered, firing_ordered, IsBetween, done_alone, dropped_alone, is_heard, heard_alone}
 
 -- ---- stretches
 
@@ -219,7 +220,7 @@ module _ (w : Parts) (a : ℕ) (past : List AttemptStep) (st : State) (run : Run
 
   pub runs_go : (one : Asked) (reply : Reply) → asked w a st ≡ Some one → fits (due_of one.ask) reply ≡ true → Goes w a (past ++ (record { asked = one; answer = Ok reply }) ∷ []) (after w a st reply)
   runs_go one reply asks fit =
-      let is : attempt_ask plan name st.phase ≡ one = one_ask (sym (ap (ask_in w a st) turns) ∙ asks) in
+      let is : attempt_ask plan name st.phase ≡ one = same_Some _ _ (sym (ap (ask_in w a st) turns) ∙ asks) in
       let may : fits (due_of (attempt_ask plan name st.phase).ask) reply ≡ true = subst (λ (x : Asked). fits (due_of x.ask) reply ≡ true) (sym is) fit in
       let goes : Goes w a (past ++ step reply ∷ []) (after_attempt w a st run.spot run.more reply) = driven reply may (heard_alone plan name st.phase reply may) in
       let same : after_attempt w a st run.spot run.more reply ≡ after w a st reply = sym (ap (λ t. after_in w a st t reply) turns) in
@@ -292,7 +293,7 @@ module _ (w : Parts) (a : ℕ) (past : List AttemptStep) (st : State) (at : Sett
 
   pub settles_go : (one : Asked) (reply : Reply) → asked w a st ≡ Some one → fits (due_of one.ask) reply ≡ true → Goes w a (past ++ (record { asked = one; answer = Ok reply }) ∷ []) (after w a st reply)
   settles_go one reply asks fit =
-      let is : at.first ≡ one = one_ask (sym (ap (ask_in w a st) turns-so) ∙ asks) in
+      let is : at.first ≡ one = same_Some _ _ (sym (ap (ask_in w a st) turns-so) ∙ asks) in
       let may : fits (due_of at.first.ask) reply ≡ true = subst (λ (x : Asked). fits (due_of x.ask) reply ≡ true) (sym is) fit in
       let goes : Goes w a (past ++ ask-step reply ∷ []) (settled w st at.rest reply) = replied reply (due-is at.rest at.order) may in
       let same : settled w st at.rest reply ≡ after w a st reply = sym (ap (λ t. after_in w a st t reply) turns-so) in

@@ -1,5 +1,6 @@
 -- What an actor does between attempts: one step that belongs to none, or the first of an attempt.
 use Rattle.std.proofs.Common.{◌≡◌, inl, inr, ℕ, ◌+◌, ◌^◌, Bool, true, false, List, [], ◌∷◌, ◌++◌, length, Some, None, Ok, refl, sym, ap, subst, arith, ◌∙◌, append-nil}
+use Rattle.std.proofs.lemmas.Option.{same_Some}
 use Rattle.std.specs.Prelude.{nat_lt, if◌then◌else◌}
 use Rattle.ccr_base.specs.declared.messages.Sent.{Sent}
 use Rattle.ccr_base.specs.declared.names.Spot.{Spot}
@@ -24,7 +25,7 @@ use Rattle.ccr_actor.specs.Actors.{State, Work, lines, round, taking, playing, p
 use Rattle.ccr_actor.proofs.StepsOfAttempts.{none-owed}
 use Rattle.ccr_rests.specs.Trials.{Trial, between, is_of_attempt}
 use Rattle.ccr_rests.proofs.Answering.{state_lacking, steps_lacking, may_lacking}
-use Rattle.ccr_rests.proofs.Hands.{one_ask, IsBetween, release_ordered}
+use Rattle.ccr_rests.proofs.Hands.{IsBetween, release_ordered}
 use Rattle.ccr_rests.proofs.AttemptsMoveOn.{and, Idle, Runs, Goes, ends, runs_go, settles_go}
 
 -- ---- what the work asks, and what a reply to it leaves
@@ -43,22 +44,22 @@ play-ask : (task : Task) (play : Play) (posts : List Sent) → is_of_attempt (pl
 play-ask task play [] = end-ask task play play.end
 play-ask task play (sent ∷ posts) = refl
 
-line-ask : (actor place : ℕ) (sents : List Sent) → is_of_attempt (line_ask actor place sents).ask ≡ false
-line-ask actor place [] = refl
-line-ask actor place (sent ∷ sents) = refl
+line-ask : (actor index : ℕ) (sents : List Sent) → is_of_attempt (line_ask actor index sents).ask ≡ false
+line-ask actor index [] = refl
+line-ask actor index (sent ∷ sents) = refl
 
 work-asks : (actor : ℕ) (work : Work) (one : Asked) → work_ask actor work ≡ Some one → is_of_attempt one.ask ≡ false
 work-asks actor work one is = by work is
   where
     told : (x : Asked) → Some x ≡ Some one → is_of_attempt x.ask ≡ false → is_of_attempt one.ask ≡ false
-    told x same apart = subst (λ (y : Asked). is_of_attempt y.ask ≡ false) (one_ask same) apart
+    told x same apart = subst (λ (y : Asked). is_of_attempt y.ask ≡ false) (same_Some _ _ same) apart
 
     by : (work : Work) → work_ask actor work ≡ Some one → is_of_attempt one.ask ≡ false
-    by (lines place sents) now = told (line_ask actor place sents) now (line-ask actor place sents)
+    by (lines index sents) now = told (line_ask actor index sents) now (line-ask actor index sents)
     by round now = told _ now refl
     by (taking left queue more) now = told _ now refl
-    by (playing task place play) now = told (play_ask task play play.posts) now (play-ask task play play.posts)
-    by (posting task place play sent) now = told _ now refl
+    by (playing task index play) now = told (play_ask task play play.posts) now (play-ask task play play.posts)
+    by (posting task index play sent) now = told _ now refl
     by (shedding task) now = told _ now refl
     by resting now = cc now
 
@@ -67,22 +68,22 @@ ended-aside w st task plays.Done = record { hand = refl; phase = refl }
 ended-aside w st task (plays.Failed value) = record { hand = refl; phase = refl }
 ended-aside w st task (plays.Yield site) = record { hand = refl; phase = refl }
 
-drawn-aside : (w : Parts) (st : State) (task : Task) (place : ℕ) (play : Play) (posts : List Sent) (reply : Reply) → IsAside st (after_play w st task place play posts reply)
-drawn-aside w st task place play [] reply = ended-aside w st task play.end
-drawn-aside w st task place play (sent ∷ posts) (replies.Drawn n) = record { hand = refl; phase = refl }
-drawn-aside w st task place play (sent ∷ posts) replies.Done = record { hand = refl; phase = refl }
-drawn-aside w st task place play (sent ∷ posts) (replies.Got m) = record { hand = refl; phase = refl }
-drawn-aside w st task place play (sent ∷ posts) (replies.Busy t) = record { hand = refl; phase = refl }
-drawn-aside w st task place play (sent ∷ posts) (replies.Short n) = record { hand = refl; phase = refl }
-drawn-aside w st task place play (sent ∷ posts) (replies.Fired t cuts) = record { hand = refl; phase = refl }
-drawn-aside w st task place play (sent ∷ posts) (replies.Dead by) = record { hand = refl; phase = refl }
-drawn-aside w st task place play (sent ∷ posts) (replies.Admitted t) = record { hand = refl; phase = refl }
-drawn-aside w st task place play (sent ∷ posts) replies.Booked = record { hand = refl; phase = refl }
-drawn-aside w st task place play (sent ∷ posts) (replies.Full n) = record { hand = refl; phase = refl }
-drawn-aside w st task place play (sent ∷ posts) (replies.Dropped t) = record { hand = refl; phase = refl }
-drawn-aside w st task place play (sent ∷ posts) (replies.Taken t) = record { hand = refl; phase = refl }
-drawn-aside w st task place play (sent ∷ posts) replies.Spent = record { hand = refl; phase = refl }
-drawn-aside w st task place play (sent ∷ posts) (replies.Left n) = record { hand = refl; phase = refl }
+drawn-aside : (w : Parts) (st : State) (task : Task) (index : ℕ) (play : Play) (posts : List Sent) (reply : Reply) → IsAside st (after_play w st task index play posts reply)
+drawn-aside w st task index play [] reply = ended-aside w st task play.end
+drawn-aside w st task index play (sent ∷ posts) (replies.Drawn n) = record { hand = refl; phase = refl }
+drawn-aside w st task index play (sent ∷ posts) replies.Done = record { hand = refl; phase = refl }
+drawn-aside w st task index play (sent ∷ posts) (replies.Got m) = record { hand = refl; phase = refl }
+drawn-aside w st task index play (sent ∷ posts) (replies.Busy t) = record { hand = refl; phase = refl }
+drawn-aside w st task index play (sent ∷ posts) (replies.Short n) = record { hand = refl; phase = refl }
+drawn-aside w st task index play (sent ∷ posts) (replies.Fired t cuts) = record { hand = refl; phase = refl }
+drawn-aside w st task index play (sent ∷ posts) (replies.Dead by) = record { hand = refl; phase = refl }
+drawn-aside w st task index play (sent ∷ posts) (replies.Admitted t) = record { hand = refl; phase = refl }
+drawn-aside w st task index play (sent ∷ posts) replies.Booked = record { hand = refl; phase = refl }
+drawn-aside w st task index play (sent ∷ posts) (replies.Full n) = record { hand = refl; phase = refl }
+drawn-aside w st task index play (sent ∷ posts) (replies.Dropped t) = record { hand = refl; phase = refl }
+drawn-aside w st task index play (sent ∷ posts) (replies.Taken t) = record { hand = refl; phase = refl }
+drawn-aside w st task index play (sent ∷ posts) replies.Spent = record { hand = refl; phase = refl }
+drawn-aside w st task index play (sent ∷ posts) (replies.Left n) = record { hand = refl; phase = refl }
 
 taking-aside : (w : Parts) (st : State) (left queue : ℕ) (parts : List QueuePart) → IsAside st (take_from w st left queue parts)
 taking-aside w st left queue [] = record { hand = refl; phase = refl }
@@ -121,16 +122,16 @@ round-aside w st (replies.Taken t) = record { hand = refl; phase = refl }
 round-aside w st (replies.Drawn n) = record { hand = refl; phase = refl }
 round-aside w st replies.Spent = record { hand = refl; phase = refl }
 
-line-aside : (w : Parts) (st : State) (place : ℕ) (sents : List Sent) → IsAside st (after_line w st place sents)
-line-aside w st place [] = record { hand = refl; phase = refl }
-line-aside w st place (sent ∷ sents) = record { hand = refl; phase = refl }
+line-aside : (w : Parts) (st : State) (index : ℕ) (sents : List Sent) → IsAside st (after_line w st index sents)
+line-aside w st index [] = record { hand = refl; phase = refl }
+line-aside w st index (sent ∷ sents) = record { hand = refl; phase = refl }
 
 work-aside : (w : Parts) (st : State) (work : Work) (reply : Reply) → IsAside st (after_work w st work reply)
-work-aside w st (lines place sents) reply = line-aside w st place sents
+work-aside w st (lines index sents) reply = line-aside w st index sents
 work-aside w st round reply = round-aside w st reply
 work-aside w st (taking left queue more) reply = taken-aside w st left queue more reply
-work-aside w st (playing task place play) reply = drawn-aside w st task place play play.posts reply
-work-aside w st (posting task place play sent) reply = record { hand = refl; phase = refl }
+work-aside w st (playing task index play) reply = drawn-aside w st task index play play.posts reply
+work-aside w st (posting task index play sent) reply = record { hand = refl; phase = refl }
 work-aside w st (shedding task) reply = record { hand = refl; phase = refl }
 work-aside w st resting reply = record { hand = refl; phase = refl }
 
@@ -201,7 +202,7 @@ module _ (w : Parts) (a : ℕ) (past : List AttemptStep) (st : State) (idle : Id
   settles x [] is =
       let turns : turn st ≡ settle x [] = rw is refl in
       let facts = settled-aside w st reply in
-      let apart : is_of_attempt one.ask ≡ false = subst (λ (y : Asked). is_of_attempt y.ask ≡ false) (one_ask (asks-in (settle x []) turns)) (subst IsBetween is idle.hand) in
+      let apart : is_of_attempt one.ask ≡ false = subst (λ (y : Asked). is_of_attempt y.ask ≡ false) (same_Some _ _ (asks-in (settle x []) turns)) (subst IsBetween is idle.hand) in
       aside (settle x []) turns apart facts.0 facts.1
 
   -- the first step of an attempt
@@ -224,11 +225,11 @@ module _ (w : Parts) (a : ℕ) (past : List AttemptStep) (st : State) (idle : Id
   step-in : (short : Bool) (hand : List Asked) (domains : List ℕ) (spots : List Spot) → st.is_short ≡ short → st.hand ≡ hand → st.domains ≡ domains → spots_left st ≡ spots → Goal
   step-in short (x ∷ rest) domains spots is own at left = settles x rest own
   step-in true [] domains spots is own at left = absurd (let none : None ≡ Some one = asks-in stop (rw (is, own) refl) in cc)
-  step-in false [] (arbiter ∷ more) spots is own at left =
-      let turns : turn st ≡ admit arbiter more = rw (is, own, at) refl in
+  step-in false [] (domain ∷ more) spots is own at left =
+      let turns : turn st ≡ admit domain more = rw (is, own, at) refl in
       let facts = admitted-aside st more reply own in
-      let apart : is_of_attempt one.ask ≡ false = subst (λ (y : Asked). is_of_attempt y.ask ≡ false) (one_ask (asks-in (admit arbiter more) turns)) refl in
-      aside (admit arbiter more) turns apart facts.0 facts.1
+      let apart : is_of_attempt one.ask ≡ false = subst (λ (y : Asked). is_of_attempt y.ask ≡ false) (same_Some _ _ (asks-in (admit domain more) turns)) refl in
+      aside (admit domain more) turns apart facts.0 facts.1
   step-in false [] [] (spot ∷ more) is own at left = begins spot more is own at left
   step-in false [] [] [] is own at left =
       let turns : turn st ≡ go_on = ap (turn_of st.is_short st.hand st.domains) left ∙ rw (is, own, at) refl in

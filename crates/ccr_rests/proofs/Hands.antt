@@ -54,11 +54,6 @@ IsBetween [] = Unit {0}
 IsBetween (one ∷ []) = is_of_attempt one.ask ≡ false
 IsBetween (one ∷ two ∷ more) = ⊥
 
--- ---- asks
-
-pub one_ask : {x y : Asked} → Some x ≡ Some y → x ≡ y
-one_ask is = cc
-
 -- ---- replies
 
 pub done_alone : (reply : Reply) → fits dues.Settled reply ≡ true → reply ≡ replies.Done

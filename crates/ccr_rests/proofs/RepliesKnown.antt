@@ -13,7 +13,7 @@ use Rattle.ccr_base.specs.declared.patterns.Slot.{Slot}
 use Rattle.ccr_base.specs.declared.tasks.By.{By}
 use Rattle.ccr_base.specs.declared.tasks.By.TheVariants.{Fired as ByFired, NoneWaiting}
 use Rattle.ccr_base.specs.declared.tasks.Task.{Task}
-use Rattle.ccr_base.specs.Choice.{fitting, is_choosable}
+use Rattle.ccr_base.specs.Selection.{fitting, is_choosable}
 use Rattle.ccr_base.specs.Names.{same_task, has_task}
 use Rattle.ccr_wiring.specs.declared.parts.ArbiterPart.{ArbiterPart}
 use Rattle.ccr_wiring.specs.declared.parts.Kind.{Kind}
@@ -35,7 +35,7 @@ use Rattle.ccr_model.proofs.Members.{Among, Contains-among, Among-kept}
 use Rattle.ccr_model.proofs.OneMoreEvent.{cut-push, dropped-push, started-push}
 use Rattle.ccr_model.proofs.SameNames.{same_task-self}
 use Rattle.ccr_model.proofs.TaskLists.{among_left, among_right}
-use Rattle.ccr_model.proofs.TaskPlaces.{ArePlaced, ArePlaced-legal}
+use Rattle.ccr_model.proofs.WhoWasPut.{ArePlaced, ArePlaced-legal}
 use Rattle.ccr_places.specs.declared.claims.StandingClaim.{StandingClaim}
 use Rattle.ccr_places.specs.declared.notes.ClaimNote.{ClaimNote}
 use Rattle.ccr_places.specs.declared.notes.ClaimNote.TheVariants.{Got, Busy, Short}
@@ -302,8 +302,8 @@ module _ (w : Parts) (workers : ℕ) (lacks : Lacks) (valid : IsValid w) (few : 
       facts : AdmitFacts w (visible past) t
       facts = AdmitFacts-allowed w (visible past) t allowed
 
-      waits_so : WaitingFacts w (visible past) facts.place.domain t
-      waits_so = WaitingFacts-waiting w (visible past) facts.place.domain t (OneName-legal w (visible past) before.legal) facts.waits
+      waits_so : WaitingFacts w (visible past) facts.placement.domain t
+      waits_so = WaitingFacts-waiting w (visible past) facts.placement.domain t (OneName-legal w (visible past) before.legal) facts.waits
 
   -- a put that dropped a task, and a take
   drops_known : (t d : TaskId) → e.note ≡ notes.Put t (Some d) → IsHanded w (visible (past ++ e ∷ [])) (Some (view w (visible (past ++ e ∷ [])) d))

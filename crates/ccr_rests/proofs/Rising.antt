@@ -1,7 +1,7 @@
 -- What an entry's ask is when it settles something, and how the attempts of its actor rise.
 use Rattle.std.proofs.Common.{inl, inr, ◌⊎◌, ◌≡◌, ◌≤◌, ◌<◌, ℕ, Bool, true, false, List, [], ◌∷◌, ◌++◌, Some, refl, sym, arith, ap, ◌∙◌, subst}
+use Rattle.std.proofs.lemmas.Option.{same_Some}
 use Rattle.std.specs.Prelude.{◌==◌}
-use Rattle.ccr_rests.proofs.Hands.{one_ask}
 use Rattle.ccr_base.specs.declared.names.MsgId.{MsgId}
 use Rattle.ccr_base.specs.declared.names.Place.TheVariants as places
 use Rattle.ccr_base.specs.declared.names.Spot.{Spot}
@@ -52,10 +52,10 @@ from_hand w n lacks es e holds step loud other = by (turn (state_of w lacks es e
 
     by : (tu : Turn) → turn (state_of w lacks es e.actor) ≡ tu → ask_in w e.actor (state_of w lacks es e.actor) (turn (state_of w lacks es e.actor)) ≡ Some step.asking → Found
     by (settle x more) turns asks_so =
-        let same : x ≡ step.asking = one_ask (sym (ap (ask_in w e.actor (state_of w lacks es e.actor)) turns) ∙ asks_so) in
+        let same : x ≡ step.asking = same_Some _ _ (sym (ap (ask_in w e.actor (state_of w lacks es e.actor)) turns) ∙ asks_so) in
         owed more (hand_settles (state_of w lacks es e.actor).is_short (state_of w lacks es e.actor).hand (state_of w lacks es e.actor).domains (spots_left (state_of w lacks es e.actor)) x more turns ∙ ap (λ (y : Asked). y ∷ more) same)
-    by (admit i more) turns asks_so = absurd (let same : at_place (places.Arbiter i) asks.Admit ≡ step.asking = one_ask (sym (ap (ask_in w e.actor (state_of w lacks es e.actor)) turns) ∙ asks_so) in no_both (ap (λ (y : Asked). is_quiet y.ask) (sym same)) loud)
-    by (drive spot more) turns asks_so = absurd (let same : attempt_ask (plan_of w spot) (name_at e.actor (state_of w lacks es e.actor)) (state_of w lacks es e.actor).phase ≡ step.asking = one_ask (sym (ap (ask_in w e.actor (state_of w lacks es e.actor)) turns) ∙ asks_so) in no_both (ap (λ (y : Asked). is_quiet y.ask) (sym same) ∙ attempt_quiet w spot (name_at e.actor (state_of w lacks es e.actor)) (state_of w lacks es e.actor).phase) loud)
+    by (admit i more) turns asks_so = absurd (let same : at_place (places.Arbiter i) asks.Admit ≡ step.asking = same_Some _ _ (sym (ap (ask_in w e.actor (state_of w lacks es e.actor)) turns) ∙ asks_so) in no_both (ap (λ (y : Asked). is_quiet y.ask) (sym same)) loud)
+    by (drive spot more) turns asks_so = absurd (let same : attempt_ask (plan_of w spot) (name_at e.actor (state_of w lacks es e.actor)) (state_of w lacks es e.actor).phase ≡ step.asking = same_Some _ _ (sym (ap (ask_in w e.actor (state_of w lacks es e.actor)) turns) ∙ asks_so) in no_both (ap (λ (y : Asked). is_quiet y.ask) (sym same) ∙ attempt_quiet w spot (name_at e.actor (state_of w lacks es e.actor)) (state_of w lacks es e.actor).phase) loud)
     by go_on turns asks_so = of_work (work_asks w (visible es) e.actor (state_of w lacks es e.actor).work step.asking (holds.actors e.actor).work (sym (ap (ask_in w e.actor (state_of w lacks es e.actor)) turns) ∙ asks_so))
     by stop turns asks_so = absurd (no_some _ step.asking refl (sym (ap (ask_in w e.actor (state_of w lacks es e.actor)) turns) ∙ asks_so))
 

@@ -24,7 +24,7 @@ use Rattle.ccr_model.proofs.FiredTasks.{IsFired, IsFired-append, placement_stays
 use Rattle.ccr_model.proofs.Members.{Among, Among-either, Among-left, Among-right}
 use Rattle.ccr_model.proofs.SameNames.{same_task-is, same_task-self}
 use Rattle.ccr_model.proofs.TaskLists.{among_left, among_right}
-use Rattle.ccr_model.proofs.TaskPlaces.{placement_by}
+use Rattle.ccr_model.proofs.WhoWasPut.{placement_by}
 use Rattle.ccr_model.proofs.TasksLeft.{has_task-append}
 use Rattle.ccr_places.specs.declared.notes.Note.{Note}
 use Rattle.ccr_places.specs.declared.notes.Note.TheVariants as notes
@@ -376,7 +376,7 @@ module _ (w : Parts) (workers : ℕ) (lacks : Lacks) (valid : IsValid w) (few : 
           fired_by_named w (is_of i) (visible past) r (OneName-legal w (visible past) holds.legal) (ap (λ ts. has_task ts r) (sym (holds.arbiters i)) ∙ fired_at_it i r past (let one = over_then.0 in omega (arith, one)))
 
       its_arbiter : domain_of_task w (visible past) r ≡ i
-      its_arbiter = ap (λ o. option_map_or (λ (s : Placement). s.domain) o 0) (placement_by w (visible past) r named.0 named.1 ∙ ap (λ s. placement w (branch_of s)) facts.is_branch ∙ facts.is_place) ∙ same_number facts.place.domain i facts.passes
+      its_arbiter = ap (λ o. option_map_or (λ (s : Placement). s.domain) o 0) (placement_by w (visible past) r named.0 named.1 ∙ ap (λ s. placement w (branch_of s)) facts.is_branch ∙ facts.is_placement) ∙ same_number facts.placement.domain i facts.passes
         where
           facts : BranchFacts w (is_of i) (named.0).spot
           facts = BranchFacts-where w (is_of i) (named.0).spot named.2

@@ -1,9 +1,10 @@
 -- What the laws are given, a run of a valid wiring wherever its actors lack memory, and what they say of it.
-use Rattle.std.specs.Prelude.{◌≡◌, ◌<◌, ◌≤◌, ◌+◌, ℕ, Bool, true, List, [], ◌∷◌, ◌++◌, length, Option}
+use Rattle.std.specs.Prelude.{◌≡◌, ◌<◌, ◌≤◌, ℕ, Bool, true, List, [], ◌∷◌, ◌++◌, Option}
 use Rattle.ccr_base.specs.Bounds.{most_workers}
 use Rattle.ccr_base.specs.declared.names.Place.{Place}
 use Rattle.ccr_base.specs.declared.names.Place.TheVariants as places
 use Rattle.ccr_base.specs.declared.names.TaskId.{TaskId}
+use Rattle.ccr_wiring.specs.Actors.{actor_count}
 use Rattle.ccr_wiring.specs.declared.parts.Parts.{Parts}
 use Rattle.ccr_wiring.specs.Valid.{IsValid}
 use Rattle.ccr_model.specs.declared.history.Event.{Event}
@@ -61,7 +62,7 @@ IsOwed run place is_end = IsToEnd run.wiring run.workers run.lacks run.entries p
 
 -- the number of an actor of the run
 abbrev pub IsActor : Run → ℕ → Type 0
-IsActor run actor = actor < length run.wiring.posters + run.workers
+IsActor run actor = actor < actor_count run.wiring run.workers
 
 -- what an actor asks next
 abbrev pub asks_next : Run → ℕ → Option Asked
@@ -115,7 +116,7 @@ pub record PlayedRun : Type 0 where
 
 -- the number of an actor of it
 abbrev pub IsPlayer : PlayedRun → ℕ → Type 0
-IsPlayer run actor = actor < length run.wiring.posters + run.workers
+IsPlayer run actor = actor < actor_count run.wiring run.workers
 
 -- what an actor asks next
 abbrev pub plays_next : PlayedRun → ℕ → Option Asked

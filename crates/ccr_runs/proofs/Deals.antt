@@ -1,4 +1,4 @@
--- The merged entries, dealt out from the histories of their places.
+-- The merged acts, dealt out from the histories of their places.
 use Rattle.std.proofs.Common.{◌≡◌, ◌≢◌, ◌∙◌, ℕ, zero, suc, ◌<◌, Bool, true, false, cond, leb, eq-eqb, ne_eqb, List, [], ◌∷◌, ◌++◌, map, length, drop, refl, ap, sym, subst, arith, length-set, Global}
 use Rattle.std.specs.declared.collections.VecDeque.{VecDeque}
 use Rattle.std.specs.Prelude.{All, Some, slice_get, slice_set}
@@ -11,7 +11,7 @@ use Rattle.ccr_turns.specs.Histories.{history_stamps}
 use Rattle.ccr_turns.proofs.Rows.{all_at, there_by_slice}
 use Rattle.ccr_turns.specs.declared.history.Held.{Held}
 use Rattle.ccr_runs.specs.declared.acts.Act.{Act}
-use Rattle.ccr_runs.specs.declared.ordering.Stamped.{Stamped}
+use Rattle.ccr_runs.specs.declared.ordering.StampedItem.{StampedItem}
 use Rattle.ccr_runs.specs.Deals.{left_at, first_at, without_first, dealt, HasEach, key, place_of}
 use Rattle.ccr_runs.specs.Merges.{held, tag, tagged, history_at}
 use Rattle.ccr_runs.specs.Orders.{put_in, in_order, merged}
@@ -19,21 +19,21 @@ use Rattle.ccr_runs.proofs.InOrder.{each_ordered, merged_parts}
 use Rattle.ccr_runs.proofs.Sorting.{tagged_inside}
 
 module _ {N : Type 0} where
-  -- the keys stand in the order of their entries
-  put_key : (x : Act N) (ys : List (Act N)) → put_in (λ (one : Stamped ℕ). one.stamp) (key x) (map key ys) ≡ map key (put_in (λ (act : Act N). act.stamp) x ys)
+  -- the keys stand in the order of their acts
+  put_key : (x : Act N) (ys : List (Act N)) → put_in (λ (one : StampedItem ℕ). one.stamp) (key x) (map key ys) ≡ map key (put_in (λ (act : Act N). act.stamp) x ys)
   put_key x [] = refl
   put_key x (y ∷ ys) = by_test (put_key x ys) (leb x.stamp y.stamp)
     where
-      by_test : put_in (λ (one : Stamped ℕ). one.stamp) (key x) (map key ys) ≡ map key (put_in (λ (act : Act N). act.stamp) x ys) → (b : Bool)
-          → cond b (key x ∷ key y ∷ map key ys) (key y ∷ put_in (λ (one : Stamped ℕ). one.stamp) (key x) (map key ys)) ≡ map key (cond b (x ∷ y ∷ ys) (y ∷ put_in (λ (act : Act N). act.stamp) x ys))
+      by_test : put_in (λ (one : StampedItem ℕ). one.stamp) (key x) (map key ys) ≡ map key (put_in (λ (act : Act N). act.stamp) x ys) → (b : Bool)
+          → cond b (key x ∷ key y ∷ map key ys) (key y ∷ put_in (λ (one : StampedItem ℕ). one.stamp) (key x) (map key ys)) ≡ map key (cond b (x ∷ y ∷ ys) (y ∷ put_in (λ (act : Act N). act.stamp) x ys))
       by_test again true = refl
-      by_test again false = ap (λ (l : List (Stamped ℕ)). key y ∷ l) again
+      by_test again false = ap (λ (l : List (StampedItem ℕ)). key y ∷ l) again
 
-  pub order_keys : (xs : List (Act N)) → in_order (λ (one : Stamped ℕ). one.stamp) (map key xs) ≡ map key (in_order (λ (act : Act N). act.stamp) xs)
+  pub order_keys : (xs : List (Act N)) → in_order (λ (one : StampedItem ℕ). one.stamp) (map key xs) ≡ map key (in_order (λ (act : Act N). act.stamp) xs)
   order_keys [] = refl
-  order_keys (x ∷ xs) = ap (put_in (λ (one : Stamped ℕ). one.stamp) (key x)) (order_keys xs) ∙ put_key x (in_order (λ (act : Act N). act.stamp) xs)
+  order_keys (x ∷ xs) = ap (put_in (λ (one : StampedItem ℕ). one.stamp) (key x)) (order_keys xs) ∙ put_key x (in_order (λ (act : Act N). act.stamp) xs)
 
-  pub key_places : (xs : List (Act N)) → map (λ (one : Stamped ℕ). one.item) (map key xs) ≡ map place_of xs
+  pub key_places : (xs : List (Act N)) → map (λ (one : StampedItem ℕ). one.item) (map key xs) ≡ map place_of xs
   key_places [] = refl
   key_places (x ∷ xs) = ap (λ (l : List ℕ). x.place ∷ l) (key_places xs)
 
@@ -50,7 +50,7 @@ module _ {N : Type 0} where
   set_other (other ∷ histories) (suc k) zero history apart = refl
   set_other (other ∷ histories) (suc k) (suc n) history apart = set_other histories k n history (λ e. apart (ap suc e))
 
-  -- entries of which each place's part is what is left there are what is dealt
+  -- acts of which each place's part is what is left there are what is dealt
   abbrev ArePartsOf : List (Act N) → List (List (Held N)) → Type 0
   ArePartsOf acts histories = (place : ℕ) → place < length histories → history_at place acts ≡ left_at histories place
 

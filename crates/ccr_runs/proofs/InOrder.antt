@@ -152,7 +152,7 @@ module _ {X Y : Type 0} (f : X → ℕ) (g : Y → ℕ) (shows : X → List Y) (
   shown_in_order xs = ordered_is g (flat_map shows xs) (flat_map shows (in_order f xs)) (shown_climbs 0 (in_order f xs) (order_climbs f xs)) (λ d.
       shown_of (g d) (in_order f xs) ∙ (ap (flat_map shows) (order_of f (g d) xs) ∙ sym (shown_of (g d) xs)))
 
--- ---- the merged entries of places
+-- ---- the merged acts of places
 
 module _ {O N : Type 0} (kept : List (O × List (Held N))) where
   same_ties : (x : Act N) → filter (ties (λ (a b : Act N). is_lt (nat_cmp a.stamp b.stamp)) x) (merged kept) ≡ filter (ties (λ (a b : Act N). is_lt (nat_cmp a.stamp b.stamp)) x) (tagged 0 kept)

@@ -1,5 +1,5 @@
--- After the sort each place's entries stand as in its history.
-use Rattle.std.proofs.Common.{Bool, true, false, not, ◌&&◌, ◌≡◌, ◌≢◌, ℕ, zero, suc, ◌+◌, ◌<◌, ◌≤◌, cond, eqb, eq-eqb, ne_eqb, List, [], ◌∷◌, ◌++◌, map, length, filter, sym, refl, ap, ◌∙◌, subst, arith, Some}
+-- After the sort each place's acts stand as in its history.
+use Rattle.std.proofs.Common.{Bool, true, false, not, ◌&&◌, ◌≡◌, ◌≢◌, ℕ, zero, suc, ◌+◌, ◌<◌, ◌≤◌, cond, eqb, eq-eqb, ne_eqb, List, [], ◌∷◌, ◌++◌, map, length, filter, sym, refl, ap, ◌∙◌, subst, arith, Some, append-nil}
 use mathlib.Core.Logic.{dite}
 use native.Mathlib.Decide.{ℕ_discrete}
 use Rattle.std.specs.Prelude.{slice_get}
@@ -115,22 +115,18 @@ none_there : {O N : Type 0} (p q : ℕ) (kept : List (O × List (Held N))) → p
 none_there p q [] l = refl
 none_there p q (k ∷ ks) l = history-append p (map (tag q) k.1) (tagged (suc q) ks) ∙ (λ i. history-apart p q k.1 (λ e. omega arith) i ++ none_there p (suc q) ks (omega arith) i)
 
-append-none : {X : Type 0} (xs : List X) → xs ++ [] ≡ xs
-append-none [] = refl
-append-none (x ∷ xs) = λ i. x ∷ append-none xs i
-
 part_from : {O N : Type 0} (q i : ℕ) (kept : List (O × List (Held N))) (left : O × List (Held N)) → slice_get kept i ≡ Some left → history_at (q + i) (tagged q kept) ≡ left.1
 part_from q i [] left at = absurd (cc)
 part_from q zero (k ∷ ks) left at =
     let same : k ≡ left = cc in
     let z : q + 0 ≡ q = omega arith in
-    ap (λ p. history_at p (tagged q (k ∷ ks))) z ∙ (history-append q (map (tag q) k.1) (tagged (suc q) ks) ∙ ((λ j. history-tagged q k.1 j ++ none_there q (suc q) ks (omega arith) j) ∙ (append-none k.1 ∙ ap (λ (l : _). l.1) same)))
+    ap (λ p. history_at p (tagged q (k ∷ ks))) z ∙ (history-append q (map (tag q) k.1) (tagged (suc q) ks) ∙ ((λ j. history-tagged q k.1 j ++ none_there q (suc q) ks (omega arith) j) ∙ (append-nil k.1 ∙ ap (λ (l : _). l.1) same)))
 part_from q (suc i) (k ∷ ks) left at =
     let z : q + suc i ≡ suc q + i = omega arith in
     ap (λ p. history_at p (tagged q (k ∷ ks))) z ∙ (history-append (suc q + i) (map (tag q) k.1) (tagged (suc q) ks) ∙ (λ j. history-apart (suc q + i) q k.1 (λ e. omega arith) j ++ part_from (suc q) i ks left at j))
 
 module _ {O N : Type 0} where
-  -- a list of the same entries at each stamp that doesn't fall has each place's history as it was
+  -- a list of the same acts at each stamp that doesn't fall has each place's history as it was
   pub parts : (kept : List (O × List (Held N))) (es : List (Act N)) → Climbs 0 (act_stamps es) → ((x : Act N) → filter (ties (λ (a b : Act N). is_lt (nat_cmp a.stamp b.stamp)) x) es ≡ filter (ties (λ (a b : Act N). is_lt (nat_cmp a.stamp b.stamp)) x) (tagged 0 kept))
       → (p : ℕ) (left : O × List (Held N)) → slice_get kept p ≡ Some left → Rises 0 (history_stamps left.1) → history_at p es ≡ left.1
   parts kept es c stable p left at rises =
@@ -158,7 +154,7 @@ tagged_inside {N = N} n q (k ∷ ks) l = each_append (map (tag q) k.1) (tagged (
 pub all_inside : {O N : Type 0} (kept : List (O × List (Held N))) → All (λ (e : Act N). e.place < length kept) (tagged 0 kept)
 all_inside kept = all_from_each (λ (e : Act _). e.place < length kept) (tagged 0 kept) (tagged_inside (length kept) 0 kept (omega arith))
 
--- ---- entries of one stamp stand by their places
+-- ---- acts of one stamp stand by their places
 
 abbrev act_places : {N : Type 0} → List (Act N) → List ℕ
 act_places {N = N} es = map (λ (e : Act N). e.place) es
@@ -179,7 +175,7 @@ module _ {N : Type 0} where
   places_listed a q [] rest low c = climbs_from q a _ low c
   places_listed a q (h ∷ hs) rest low c = (low, places_listed q q hs rest (omega arith) c)
 
-  -- the entries of each stamp stand by their places, above some bound
+  -- the acts of each stamp stand by their places, above some bound
   abbrev AreByPlace : List (Act N) → Type 0
   AreByPlace es = (x : Act N) → (a : ℕ) × Climbs a (act_places (of_stamp x.stamp es))
 
@@ -206,7 +202,7 @@ places_tagged : {O N : Type 0} (q : ℕ) (kept : List (O × List (Held N))) → 
 places_tagged q [] = tt
 places_tagged q (k ∷ ks) = places_listed q q k.1 (tagged (suc q) ks) (omega arith) (climbs_from (suc q) q _ (omega arith) (places_tagged (suc q) ks))
 
--- a list of the same entries at each stamp, in the same order, has those of one stamp by their places
+-- a list of the same acts at each stamp, in the same order, has those of one stamp by their places
 pub by_places : {O N : Type 0} (kept : List (O × List (Held N))) (es : List (Act N)) → ((x : Act N) → filter (ties (λ (a b : Act N). is_lt (nat_cmp a.stamp b.stamp)) x) es ≡ filter (ties (λ (a b : Act N). is_lt (nat_cmp a.stamp b.stamp)) x) (tagged 0 kept)) → IsByPlace es
 by_places {O} {N} kept es stable = by_place es (λ x.
     let test = ties (λ (a b : Act N). is_lt (nat_cmp a.stamp b.stamp)) x in

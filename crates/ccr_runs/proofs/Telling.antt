@@ -1,4 +1,4 @@
--- Each seat's part of the entries is its log, and so the entries are a run.
+-- Each seat's part of the acts is its log, and so the acts are a run.
 use Rattle.std.proofs.Common.{◌≡◌, ◌≢◌, ℕ, ◌+◌, ◌<◌, ◌≤◌, max, cond, eq-eqb, ne_eqb, List, [], ◌∷◌, ◌++◌, sym, refl, ap, ◌∙◌, subst, arith, Some}
 use mathlib.Core.Logic.{dite}
 use native.Mathlib.Decide.{ℕ_discrete}
@@ -131,7 +131,7 @@ module _ {N X A R S : Type 0} (r : Protocol N X A R S) where
   state_more s [] m = refl
   state_more s (x ∷ xs) m = state_more (r.got s (r.replied x.before x.note)) xs m
 
-  -- so it is of merged entries, where each seat has a proper log
+  -- so it is of merged acts, where each seat has a proper log
   pub run_of_logs : (n : ℕ) (v : Scene X) (l : Cast r) (es : List (Act N)) → IsMerged r n v es → ((k : ℕ) → k < n → HasProperLog r v l k es) → IsRunFrom r n v l es
   run_of_logs n v l es merged logs = run_of r n v l es merged.seated merged.given (λ k low.
       let (logged, its, proper) = logs k low in

@@ -1,4 +1,4 @@
--- The entries of all places, and a place's part of them.
+-- The acts of all places, and a place's part of them.
 use Rattle.std.specs.Prelude.{◌≡◌, ℕ, suc, ◌≤◌, ◌==◌, cond, List, [], ◌∷◌, ◌++◌, map}
 use Rattle.ccr_turns.specs.declared.history.Held.{Held}
 use Rattle.ccr_runs.specs.declared.acts.Act.{Act}
@@ -16,7 +16,7 @@ module _ {N : Type 0} where
   held e = record { seat = e.seat; stamp = e.stamp; note = e.note }
 
   abbrev pub act_stamps : List (Act N) → List ℕ
-  act_stamps entries = map (λ e. e.stamp) entries
+  act_stamps acts = map (λ e. e.stamp) acts
 
   -- the place's part
   abbrev pub history_at : ℕ → List (Act N) → List (Held N)
@@ -32,7 +32,7 @@ module _ {N : Type 0} where
   IsByPlace [] = Unit {0}
   IsByPlace (e ∷ es) = IsBefore e es × IsByPlace es
 
--- the entries of these places one after the other, with the numbers from p on
+-- the acts of these places one after the other, with the numbers from p on
 abbrev pub tagged : {O N : Type 0} → ℕ → List (O × List (Held N)) → List (Act N)
 tagged p [] = []
 tagged p (k ∷ ks) = map (tag p) k.1 ++ tagged (suc p) ks

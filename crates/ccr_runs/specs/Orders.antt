@@ -15,6 +15,6 @@ module _ {X : Type 0} (stamp : X → ℕ) where
   in_order [] = []
   in_order (x ∷ xs) = put_in x (in_order xs)
 
--- the entries of all places by their stamps, where stamps are equal by their places, and each place's as they stood
+-- the acts of all places by their stamps, where stamps are equal by their places, and each place's as they stood
 abbrev pub merged : {O N : Type 0} → List (O × List (Held N)) → List (Act N)
 merged {O} {N} kept = in_order (λ (e : Act N). e.stamp) (tagged 0 kept)

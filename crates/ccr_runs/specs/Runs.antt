@@ -1,4 +1,4 @@
--- Runs: each entry is the next ask of its actor, and what its object gives.
+-- Runs: each act is the next ask of its actor, and what its object gives.
 use Rattle.std.specs.Prelude.{◌≡◌, ℕ, ◌+◌, ◌<◌, max, ◌==◌, cond, List, [], ◌∷◌, Option, Some}
 use Rattle.ccr_turns.specs.Lists.{Rises}
 use Rattle.ccr_base.specs.Lists.{Each}
@@ -62,15 +62,15 @@ module _ {N X A R S : Type 0} (r : Protocol N X A R S) where
   abbrev pub cast : Cast
   cast k = (r.begin k, 0)
 
--- ---- what makes entries a run
+-- ---- what makes acts a run
 
--- the log has at each place the seat's entries there and no others, and its stamps rise
+-- the log has at each place the seat's acts there and no others, and its stamps rise
 pub record IsLog {N X : Type 0} (after : X → N → X) (v : Scene X) (k : ℕ) (es : List (Act N)) (logged : List (LogEntry N X)) : Type 0 where
   pub rising : Rises 0 (log_stamps logged)
   pub same : (p : ℕ) → at_place p logged ≡ told after p k (v p).0 (v p).1 (history_at p es)
 
 module _ {N X A R S : Type 0} (r : Protocol N X A R S) where
-  -- the entries stand by their stamps, each is one of n seats, and each place gave its own in their order
+  -- the acts stand by their stamps, each is one of n seats, and each place gave its own in their order
   pub record IsMerged (n : ℕ) (v : Scene X) (es : List (Act N)) : Type 0 where
     pub sorted : Climbs 0 (act_stamps es)
     pub seated : Each (λ e. e.seat < n) es
@@ -80,10 +80,10 @@ module _ {N X A R S : Type 0} (r : Protocol N X A R S) where
   abbrev pub HasProperLog : Scene X → Cast r → ℕ → List (Act N) → Type 0
   HasProperLog v l k es = (logged : List (LogEntry N X)) × IsLog r.after v k es logged × IsProper r (l k).0 (l k).1 logged
 
-  -- if the entries are merged and each seat has a proper log, they are a run
+  -- if the acts are merged and each seat has a proper log, they are a run
   abbrev pub MakeRun : ℕ → Scene X → Cast r → List (Act N) → Type 0
   MakeRun n v l es = IsMerged n v es → ((k : ℕ) → k < n → HasProperLog v l k es) → IsRunFrom r n v l es
 
-  -- if the entries are merged and these are a log of the seat, they are its story
+  -- if the acts are merged and these are a log of the seat, they are its story
   abbrev pub TellStory : ℕ → Scene X → List (Act N) → ℕ → List (LogEntry N X) → Type 0
   TellStory n v es k logged = IsMerged n v es → IsLog r.after v k es logged → story r.after k v es ≡ logged

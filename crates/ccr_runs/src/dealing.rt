@@ -9,14 +9,14 @@ ghost use Rattle.ccr_runs.specs.Orders.{merged};
 
 use crate::acts::Act;
 use crate::merging::count_of;
-use crate::ordering::{Stamped, in_order};
+use crate::ordering::{StampedItem, in_order};
 use ccr_base::{List, OutOfMemory};
 use ccr_turns::Held;
 use std::alloc::Global;
 use std::collections::VecDeque;
 use std::marker::Model;
 
-/// The entries of closed locks that are left, by their stamps, and where stamps are equal by their places. Each is moved out once, so no list of all of
+/// The acts of closed locks that are left, by their stamps, and where stamps are equal by their places. Each is moved out once, so no list of all of
 /// them is made. Contracts see them in that order.
 #[derive(Drop)]
 pub struct Deal<N> {
@@ -40,14 +40,14 @@ impl<N> Model for Deal<N> {
 
 // Adds the stamps of the history, each with the place.
 fn add_keys<N>(
-    keys: &mut Vec<Stamped<u32>>,
+    keys: &mut Vec<StampedItem<u32>>,
     place: u32,
     history: &[Held<N>],
 ) -> Result<(), OutOfMemory>
     ensures { OnOk result (keys.new.items ≡ keys.old.items ++ map key (map (tag place) history.now)) }
 {
     for held in history {
-        keys.push(Stamped {
+        keys.push(StampedItem {
             stamp: held.stamp,
             item: place,
         })?;
@@ -55,11 +55,11 @@ fn add_keys<N>(
     Ok(())
 }
 
-// The stamps of all entries, each with its place.
+// The stamps of all acts, each with its place.
 fn keys_of<O: Drop, N: Drop>(
     alloc: Global,
     kept: &[(O, List<Held<N>>)],
-) -> Result<Vec<Stamped<u32>>, OutOfMemory>
+) -> Result<Vec<StampedItem<u32>>, OutOfMemory>
     requires few { length kept.now < 2 ^ 32 }
     ensures { IfOk result (λ keys. keys.items ≡ map key (tagged 0 kept.now)) }
 {
@@ -73,7 +73,7 @@ fn keys_of<O: Drop, N: Drop>(
 }
 
 // The places of stamps.
-fn places_of(alloc: Global, keys: Vec<Stamped<u32>>) -> Result<Vec<u32>, OutOfMemory>
+fn places_of(alloc: Global, keys: Vec<StampedItem<u32>>) -> Result<Vec<u32>, OutOfMemory>
     ensures { IfOk result (λ places. places.items ≡ map (λ one. one.item) keys.items) }
 {
     let mut places = Vec::with_capacity(alloc, keys.len())?;
@@ -83,7 +83,7 @@ fn places_of(alloc: Global, keys: Vec<Stamped<u32>>) -> Result<Vec<u32>, OutOfMe
     Ok(places)
 }
 
-// The places of all entries, in order.
+// The places of all acts, in order.
 fn order_of<O: Drop, N: Drop>(
     alloc: Global,
     kept: &[(O, List<Held<N>>)],
@@ -111,7 +111,7 @@ fn histories_of<O: Drop, N: Drop>(
 }
 
 impl<N: Drop> Deal<N> {
-    /// All entries of these histories.
+    /// All acts of these histories.
     pub fn of<O: Drop>(
         alloc: Global,
         kept: List<(O, List<Held<N>>)>,

@@ -6,12 +6,12 @@ ghost use Rattle.ccr_runs.specs.declared.acts.Act.{Act};
 ghost use Rattle.ccr_runs.specs.Stories.{Scene};
 ghost use Rattle.ccr_runs.specs.Runs.{Protocol, Cast, MakeRun, TellStory};
 
-/// Merged entries that their places gave, of seats that each have a proper log, are a run.
+/// Merged acts that their places gave, of seats that each have a proper log, are a run.
 pub fn proper_logs_make_a_run<N, X, A, R, S>()
-    ensures run { (protocol : Protocol N X A R S) (seats : ℕ) (scene : Scene X) (cast : Cast protocol) (entries : List (Act N)) → MakeRun protocol seats scene cast entries }
+    ensures run { (protocol : Protocol N X A R S) (seats : ℕ) (scene : Scene X) (cast : Cast protocol) (acts : List (Act N)) → MakeRun protocol seats scene cast acts }
 {}
 
-/// A seat's log is its story in the merged entries.
+/// A seat's log is its story in the merged acts.
 pub fn logs_are_stories<N, X, A, R, S>()
-    ensures story { (protocol : Protocol N X A R S) (seats : ℕ) (scene : Scene X) (entries : List (Act N)) (seat : ℕ) (logged : List (LogEntry N X)) → TellStory protocol seats scene entries seat logged }
+    ensures story { (protocol : Protocol N X A R S) (seats : ℕ) (scene : Scene X) (acts : List (Act N)) (seat : ℕ) (logged : List (LogEntry N X)) → TellStory protocol seats scene acts seat logged }
 {}

@@ -1,4 +1,4 @@
-//! Runs: the entries of all places in one list, by stamp, what makes them a run, and the history that they show.
+//! Runs: the acts of all places in one list, by stamp, what makes them a run, and the history that they show.
 #![tactic(auto)]
 
 mod acts;
@@ -18,5 +18,5 @@ pub use entries::{Entry, Full};
 pub use fulls::{entry_at, full_of};
 pub use laws::{logs_are_stories, proper_logs_make_a_run};
 pub use merging::merge;
-pub use ordering::{Stamped, in_order};
+pub use ordering::{StampedItem, in_order};
 pub use showing::{event_of, history_of};

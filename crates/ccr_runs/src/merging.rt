@@ -11,25 +11,25 @@ use ccr_base::{List, OutOfMemory};
 use ccr_turns::Held;
 use std::alloc::Global;
 
-/// All entries by their stamps, and where stamps are equal by their places. Each place's entries stand in their order.
+/// All acts by their stamps, and where stamps are equal by their places. Each place's acts stand in their order.
 pub fn merge<O: Drop, N: Drop>(
     alloc: Global,
     kept: List<(O, List<Held<N>>)>,
 ) -> Result<List<Act<N>>, OutOfMemory>
     requires few { length kept < 2 ^ 32 }
     requires rising { All (λ left. Rises 0 (history_stamps left.1)) kept }
-    ensures parts { IfOk result (λ entries. (place : ℕ) (left : O × _) → slice_get kept place ≡ Some left → history_at place entries ≡ left.1) }
-    ensures inside { IfOk result (λ entries. All (λ entry. entry.place < length kept) entries) }
-    ensures sorted { IfOk result (λ entries. Climbs 0 (act_stamps entries)) }
-    ensures by_place { IfOk result (λ entries. IsByPlace entries) }
-    ensures exact { IfOk result (λ entries. entries ≡ merged kept) }
+    ensures parts { IfOk result (λ acts. (place : ℕ) (left : O × _) → slice_get kept place ≡ Some left → history_at place acts ≡ left.1) }
+    ensures inside { IfOk result (λ acts. All (λ act. act.place < length kept) acts) }
+    ensures sorted { IfOk result (λ acts. Climbs 0 (act_stamps acts)) }
+    ensures by_place { IfOk result (λ acts. IsByPlace acts) }
+    ensures exact { IfOk result (λ acts. acts ≡ merged kept) }
 {
-    let mut entries = all(alloc, kept.into_vec())?;
-    entries.sort_by_cached_key(|entry| entry.stamp)?;
-    Ok(List::from_vec(entries))
+    let mut acts = all(alloc, kept.into_vec())?;
+    acts.sort_by_cached_key(|act| act.stamp)?;
+    Ok(List::from_vec(acts))
 }
 
-// How many entries there are.
+// How many entries these histories have.
 pub(crate) fn count_of<O: Drop, N: Drop>(kept: &[(O, List<Held<N>>)]) -> usize {
     let mut count = 0usize;
     for left in kept {
@@ -38,34 +38,34 @@ pub(crate) fn count_of<O: Drop, N: Drop>(kept: &[(O, List<Held<N>>)]) -> usize {
     count
 }
 
-// The entries place by place.
+// The acts place by place.
 fn all<O: Drop, N: Drop>(
     alloc: Global,
     kept: Vec<(O, List<Held<N>>)>,
 ) -> Result<Vec<Act<N>>, OutOfMemory>
     requires few { length kept.items < 2 ^ 32 }
-    ensures { IfOk result (λ entries. entries.items ≡ tagged 0 kept.items) }
+    ensures { IfOk result (λ acts. acts.items ≡ tagged 0 kept.items) }
 {
-    let mut entries = Vec::with_capacity(alloc, count_of(&kept))?;
+    let mut acts = Vec::with_capacity(alloc, count_of(&kept))?;
     let mut place = 0;
     for (_, history) in kept {
-        add(&mut entries, place, history.into_vec())?;
+        add(&mut acts, place, history.into_vec())?;
         place += 1;
     }
-    Ok(entries)
+    Ok(acts)
 }
 
 fn add<N: Drop>(
-    entries: &mut Vec<Act<N>>,
+    acts: &mut Vec<Act<N>>,
     place: u32,
     history: Vec<Held<N>>,
 ) -> Result<(), OutOfMemory>
-    ensures { OnOk result (entries.new.items ≡ entries.old.items ++ map (tag place) history.items) }
+    ensures { OnOk result (acts.new.items ≡ acts.old.items ++ map (tag place) history.items) }
 {
-    entries.reserve(history.len())?;
+    acts.reserve(history.len())?;
     for held in history {
         let Held { seat, stamp, note } = held;
-        entries.push_reserved(Act {
+        acts.push_reserved(Act {
             place,
             seat,
             stamp,

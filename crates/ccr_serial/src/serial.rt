@@ -72,6 +72,7 @@ impl<'w> Serial<'w> {
         requires low { closer ≤ most_actors }
         ensures { IfOk result (λ engine. engine ≡ record { wiring = wiring.now; closer = closer; history = [] }) }
     {
+        // `parts` says that the wiring is valid.
         wiring.parts();
         let made = Engine::start(alloc, wiring, closer)?;
         let engine = Box::new(alloc, made)?;
@@ -98,6 +99,7 @@ impl<'w> Serial<'w> {
         ensures ok { IfOk result (λ engine. engine ≡ record { wiring = wiring.now; closer = closer; history = history }) }
         ensures returned { IfErr result (λ refused. refused.1 ≡ history) }
     {
+        // `parts` says that the wiring is valid.
         wiring.parts();
         match resumed(alloc, wiring, closer, history.events()) {
             Ok(engine) => Ok(Serial {

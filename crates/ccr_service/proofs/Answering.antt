@@ -41,7 +41,7 @@ use Rattle.ccr_model.proofs.SameNames.{same_message-is}
 use Rattle.ccr_model.proofs.Stable.{firings-append, play_of-append}
 use Rattle.ccr_model.proofs.Cutting.{cut_not_started, cut_not_put}
 use Rattle.ccr_model.proofs.Ending.{AreEnded-legal}
-use Rattle.ccr_model.proofs.TaskPlaces.{ArePlaced-legal}
+use Rattle.ccr_model.proofs.WhoWasPut.{ArePlaced-legal}
 use Rattle.ccr_model.proofs.FiringPlacements.{firing_with_placement}
 use Rattle.ccr_laws.specs.Occurring.{Occurs}
 use Rattle.ccr_laws.specs.OneFate.{IsHeld, IsTakenBy, HasEnded, IsIn, HasFate, HasOneFate}
@@ -49,8 +49,8 @@ use Rattle.ccr_laws.proofs.LegalEventsWereAllowed.{allowed_at, legal_past}
 use Rattle.ccr_laws.proofs.DroppingPuts.{dropped_unstarted}
 use Rattle.ccr_laws.proofs.OneFates.{one_fate}
 use Rattle.ccr_laws.proofs.States.{is_in}
-use Rattle.ccr_service.specs.declared.replies.Answer.{Answer}
-use Rattle.ccr_service.specs.declared.replies.Answer.TheVariants as told
+use Rattle.ccr_service.specs.declared.answer.Answer.{Answer}
+use Rattle.ccr_service.specs.declared.answer.Answer.TheVariants as told
 use Rattle.ccr_service.specs.declared.parts.AskPart.{AskPart}
 use Rattle.ccr_service.specs.declared.parts.ClientPart.{ClientPart}
 use Rattle.ccr_service.specs.declared.parts.OpPart.{OpPart}

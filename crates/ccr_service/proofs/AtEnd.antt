@@ -13,7 +13,7 @@ use Rattle.ccr_base.specs.declared.policies.Policy.TheVariants.{Unbounded, Disca
 use Rattle.ccr_base.specs.declared.policies.Group.{Group}
 use Rattle.ccr_base.specs.declared.policies.Group.TheVariants as groups
 use Rattle.ccr_base.specs.declared.patterns.Pred.{Pred}
-use Rattle.ccr_base.specs.Choice.{holds, fitting}
+use Rattle.ccr_base.specs.Selection.{holds, fitting}
 use Rattle.ccr_base.specs.Names.{same_task, has_task}
 use Rattle.ccr_wiring.specs.declared.parts.Parts.{Parts}
 use Rattle.ccr_wiring.specs.declared.parts.Kind.TheVariants as kinds
@@ -80,10 +80,10 @@ none_coming w h legal still q = no_members (coming w h q) gone
     gone t is =
         let parts = of_without (fired_by w (λ (s : Placement). s.branch.queue == q) h) (started h ++ dropped h ++ cut h) t is in
         let found = fired_by_named w (λ (s : Placement). s.branch.queue == q) h t (OneName-legal w h legal) parts.0 in
-        let place = BranchFacts-where w (λ (s : Placement). s.branch.queue == q) found.0.spot found.2 in
-        let seated : placement w (branch_of found.0.spot) ≡ Some place.place = ap (λ s. placement w (branch_of s)) place.is_branch ∙ place.is_place in
+        let branch = BranchFacts-where w (λ (s : Placement). s.branch.queue == q) found.0.spot found.2 in
+        let seated : placement w (branch_of found.0.spot) ≡ Some branch.placement = ap (λ s. placement w (branch_of s)) branch.is_branch ∙ branch.is_placement in
         let rest = out_left (started h ++ dropped h) (cut h) t parts.1 in
-        went_on w h legal still t (out_right (started h ++ dropped h) (cut h) t parts.1) (out_right (started h) (dropped h) t rest) (out_left (started h) (dropped h) t rest) (state_of w h t) (is_in w h t found.0 place.place found.1 seated)
+        went_on w h legal still t (out_right (started h ++ dropped h) (cut h) t parts.1) (out_right (started h) (dropped h) t rest) (out_left (started h) (dropped h) t rest) (state_of w h t) (is_in w h t found.0 branch.placement found.1 seated)
 
 -- ---- no branch can fire
 
@@ -126,13 +126,13 @@ room_so s is most e = let inside : policy_is_outside (Throttle most) ≡ false =
 -- before a teardown has fired, a held request could be taken
 could_fire : (s : ServiceParts) → IsService s → HasGroups (expansion s) → (h : List Event) → coming (expansion s) h 0 ≡ [] → no_teardown s h ≡ true → (op value : ℕ) (m : Msg) → m.value ≡ value ∷ [] → (takes : TakesIt s op value) → Among m (held h (request_port op)) → can_fire (expansion s) h (Branch takes.number) ≡ true
 could_fire s served fit h none_coming unturned op value m is takes among =
-    let facts = PlacementFacts-placement s takes.number takes.place takes.is_place in
-    let grouped : may_have kinds.Interleave takes.place.branch.group ≡ true = subst (λ k. may_have k takes.place.branch.group ≡ true) facts.kind (fit takes.number takes.place takes.is_place) in
-    let live : is_live (expansion s) h (Branch takes.number) ≡ true = ap (λ o. option_map_or (λ (r : Placement). is_live_in (expansion s) h takes.number r.domain r.branch.group) o false) takes.is_place ∙ ap (λ a. is_live_in (expansion s) h takes.number a takes.place.branch.group) facts.domain ∙ live_by (expansion s) h takes.number takes.place.branch.group grouped ∙ unturned in
-    let room : has_room (expansion s) h (Branch takes.number) ≡ true = ap (λ o. option_map_or (λ (r : Placement). has_room_in (expansion s) h r.branch.queue (policy_of (expansion s) r.branch.queue)) o true) takes.is_place ∙ ap (λ q. has_room_in (expansion s) h q (policy_of (expansion s) q)) takes.serves.queue ∙ room_by (expansion s) h s.policy (room_so s served) none_coming in
+    let facts = PlacementFacts-placement s takes.number takes.placement takes.is_placement in
+    let grouped : may_have kinds.Interleave takes.placement.branch.group ≡ true = subst (λ k. may_have k takes.placement.branch.group ≡ true) facts.kind (fit takes.number takes.placement takes.is_placement) in
+    let live : is_live (expansion s) h (Branch takes.number) ≡ true = ap (λ o. option_map_or (λ (r : Placement). is_live_in (expansion s) h takes.number r.domain r.branch.group) o false) takes.is_placement ∙ ap (λ a. is_live_in (expansion s) h takes.number a takes.placement.branch.group) facts.domain ∙ live_by (expansion s) h takes.number takes.placement.branch.group grouped ∙ unturned in
+    let room : has_room (expansion s) h (Branch takes.number) ≡ true = ap (λ o. option_map_or (λ (r : Placement). has_room_in (expansion s) h r.branch.queue (policy_of (expansion s) r.branch.queue)) o true) takes.is_placement ∙ ap (λ q. has_room_in (expansion s) h q (policy_of (expansion s) q)) takes.serves.queue ∙ room_by (expansion s) h s.policy (room_so s served) none_coming in
     let fits = some_fits takes.pred (held h (request_port op)) m among (subst (λ v. holds takes.pred v ≡ true) (sym is) takes.holds_so) in
-    let enough : has_enough (held h) takes.place.branch.pattern ≡ true = ap (has_enough (held h)) takes.serves.pattern ∙ rw fits refl in
-    let take : can_take (expansion s) h (Branch takes.number) ≡ true = ap (λ o. option_map_or (λ (r : Placement). has_enough (held h) r.branch.pattern) o false) takes.is_place ∙ enough in
+    let enough : has_enough (held h) takes.placement.branch.pattern ≡ true = ap (has_enough (held h)) takes.serves.pattern ∙ rw fits refl in
+    let take : can_take (expansion s) h (Branch takes.number) ≡ true = ap (λ o. option_map_or (λ (r : Placement). has_enough (held h) r.branch.pattern) o false) takes.is_placement ∙ enough in
     rw (live, room, take) refl
 
 -- a request is held only where a teardown has fired
@@ -143,4 +143,4 @@ held_torn s served fit h legal still end op part at value m is among = by_test (
     by_test false e = refl
     by_test true e =
         let takes = TakesIt-op s op value part at in
-        absurd (no_both (could_fire s served fit h (none_coming (expansion s) h legal still 0) e op value m is takes among) (no_branch (expansion s) h end takes.number takes.place takes.is_place))
+        absurd (no_both (could_fire s served fit h (none_coming (expansion s) h legal still 0) e op value m is takes among) (no_branch (expansion s) h end takes.number takes.placement takes.is_placement))

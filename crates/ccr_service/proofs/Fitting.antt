@@ -1,10 +1,10 @@
 -- The expansion of each service is valid.
-use Rattle.std.proofs.Common.{◌≡◌, inl, inr, ℕ, suc, ◌+◌, ◌<◌, ◌≤◌, Bool, true, false, not, ◌||◌, List, [], ◌∷◌, ◌++◌, length, map, flat_map, cond, Option, Some, None, refl, sym, ap, ◌∙◌, arith, subst, append-nil, append_assoc}
+use Rattle.std.proofs.Common.{◌≡◌, inl, inr, ℕ, suc, ◌+◌, ◌<◌, ◌≤◌, Bool, true, false, not, ◌||◌, List, [], ◌∷◌, ◌++◌, length, map, cond, Option, Some, None, refl, sym, ap, ◌∙◌, arith, subst, append-nil}
 use Rattle.std.specs.Prelude.{◌==◌, codes, if◌then◌else◌, nat_lt}
 use Rattle.std.specs.List.{list_any, list_all, slice_get}
 use Rattle.std.proofs.lemmas.List.{length-append, length-map}
 use Rattle.std.proofs.lemmas.Bool.Decides.{nat_tests}
-use Rattle.std.proofs.lemmas.Grind.{common_steps}
+use Rattle.std.proofs.lemmas.Grind.{common_steps, flat_map-append}
 use Rattle.std.proofs.lemmas.Bool.{le-ltb}
 use Rattle.ccr_base.specs.declared.handlers.Action.TheVariants as actions
 use Rattle.ccr_base.specs.declared.messages.Sent.{Sent}
@@ -297,10 +297,6 @@ branchless s is =
 
 -- ---- few branches name one port
 
-spread_append : {X Y : Type 0} (f : X → List Y) (xs ys : List X) → flat_map f (xs ++ ys) ≡ flat_map f xs ++ flat_map f ys
-spread_append f [] ys = refl
-spread_append f (x ∷ xs) ys = ap (λ zs. f x ++ zs) (spread_append f xs ys) ∙ sym (append_assoc (f x) (flat_map f xs) (flat_map f ys))
-
 -- the ports that a branch names
 one_named : (s : ServiceParts) (k : ℕ) (part : OpPart) → slice_get s.ops k ≡ Some part → (b : BranchPart) → Among b (op_branches (length s.ops) k part part.below) → branch_named (expansion s) b ≡ request_port k ∷ []
 one_named s k part at b among =
@@ -354,7 +350,7 @@ few_from s n port (op ∷ ops) within =
     let e : n + 0 ≡ n = omega arith in
     let here = op_named s n op (subst (λ i. slice_get s.ops i ≡ Some op) e (within 0 op refl)) port in
     let rest = few_from s (n + 1) port ops (λ k part at. let f : n + suc k ≡ (n + 1) + k = omega arith in subst (λ i. slice_get s.ops i ≡ Some part) f (within (suc k) part at)) in
-    let all : times port (branches_named (expansion s) (branches_from (length s.ops) n (op ∷ ops))) ≡ times port (branches_named (expansion s) (op_branches (length s.ops) n op op.below)) + times port (branches_named (expansion s) (branches_from (length s.ops) (n + 1) ops)) = ap (times port) (spread_append (branch_named (expansion s)) (op_branches (length s.ops) n op op.below) (branches_from (length s.ops) (n + 1) ops)) ∙ times_append port (branches_named (expansion s) (op_branches (length s.ops) n op op.below)) (branches_named (expansion s) (branches_from (length s.ops) (n + 1) ops)) in
+    let all : times port (branches_named (expansion s) (branches_from (length s.ops) n (op ∷ ops))) ≡ times port (branches_named (expansion s) (op_branches (length s.ops) n op op.below)) + times port (branches_named (expansion s) (branches_from (length s.ops) (n + 1) ops)) = ap (times port) (flat_map-append (branch_named (expansion s)) (op_branches (length s.ops) n op op.below) (branches_from (length s.ops) (n + 1) ops)) ∙ times_append port (branches_named (expansion s) (op_branches (length s.ops) n op op.below)) (branches_named (expansion s) (branches_from (length s.ops) (n + 1) ops)) in
     let high = here.most in
     let more = rest.most in
     record {

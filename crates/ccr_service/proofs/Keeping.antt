@@ -49,7 +49,7 @@ okay a = Ok a
 pub same_ok : {A : Type 0} {a b : A} → okay a ≡ okay b → a ≡ b
 same_ok e = cc
 
--- ---- places
+-- ---- fields
 
 record IsNewName (names : Naming) (name : List ℕ) : Type 0 where
   formed : is_service_name name ≡ true
@@ -107,7 +107,7 @@ policy_ok words p e =
     by_first false false true rest is = let n = then_ok (number_within 1 1000 rest) _ p is in let w = within_ok 1 1000 rest n.0 n.1 in ap (λ (q : Policy × Words). policy_is_outside q.0) (sym (same_ok n.2)) ∙ inside 1 1000 n.0.0 w.0 w.1
     by_first false false false rest is = absurd (cc)
 
-abbrev group_by : Bool → Bool → Bool → Words → Result (Group × Words) ℕ
+abbrev pub group_by : Bool → Bool → Bool → Words → Result (Group × Words) ℕ
 group_by x y z rest = if x then Ok (groups.Teardown, rest) else if y then Ok (groups.Exclusive, rest) else if z then Ok (groups.Concurrent, rest) else Err 3
 
 group_ok : (words : Words) (p : Group × Words) → group words ≡ Ok p → may_have kinds.Interleave p.0 ≡ true

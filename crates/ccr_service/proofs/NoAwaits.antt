@@ -15,7 +15,7 @@ use Rattle.ccr_wiring.specs.Wirings.{Placement, placement, actions_of, awaited, 
 use Rattle.ccr_model.specs.declared.history.Event.{Event}
 use Rattle.ccr_model.specs.declared.history.Event.TheVariants.{Post, Fire, Admit, Put, Start, End}
 use Rattle.ccr_model.specs.declared.history.EndHow.TheVariants as ends
-use Rattle.ccr_model.specs.Choice.{is_choice, are_oldest}
+use Rattle.ccr_model.specs.Selection.{is_selection, are_oldest}
 use Rattle.ccr_model.specs.Posts.{held}
 use Rattle.ccr_model.specs.Firings.{Firing, firing_named, yielded, ended, dropped, last_segments}
 use Rattle.ccr_model.specs.TaskData.{play_of, load_at}
@@ -43,7 +43,7 @@ pub no_site_fires : (w : Parts) → HasNoAwaits w → (h : List Event) (t : Task
 no_site_fires w none h t b k ms cs allowed =
     let a = refused_not (is_new h t) _ _ allowed in
     let c = refused_not (is_live w h (Site b k)) _ _ a.1 in
-    let d = refused_not (is_choice w h (Site b k) ms) _ _ c.1 in
+    let d = refused_not (is_selection w h (Site b k) ms) _ _ c.1 in
     let found = some_of (λ port. are_oldest (held h port) ms) (site_port w b k) d.0 in
     no_port w none b k found.0 found.1
 

@@ -26,7 +26,7 @@ use Rattle.ccr_model.proofs.AllowedDrops.{drop_allowed}
 use Rattle.ccr_laws.proofs.DroppingPuts.{some_put}
 use Rattle.ccr_model.proofs.AllowedFirings.{FiresSo-allowed}
 use Rattle.ccr_model.proofs.TaskLists.{of_more}
-use Rattle.ccr_model.proofs.TaskPlaces.{placement_by}
+use Rattle.ccr_model.proofs.WhoWasPut.{placement_by}
 use Rattle.ccr_service.specs.declared.parts.ServiceParts.{ServiceParts}
 use Rattle.ccr_service.specs.Expansion.{expansion}
 use Rattle.ccr_service.specs.Served.{is_torn_down}

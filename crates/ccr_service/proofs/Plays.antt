@@ -13,7 +13,7 @@ use Rattle.ccr_base.specs.declared.handlers.Action.TheVariants as actions
 use Rattle.ccr_base.specs.declared.handlers.Expr.TheVariants.{Arg}
 use Rattle.ccr_base.specs.declared.patterns.Pred.{Pred}
 use Rattle.ccr_base.specs.declared.patterns.Pred.TheVariants.{Any, Lt}
-use Rattle.ccr_base.specs.Choice.{holds}
+use Rattle.ccr_base.specs.Selection.{holds}
 use Rattle.ccr_handler.specs.Playing.{play}
 use Rattle.ccr_wiring.specs.declared.parts.CausePart.{CausePart}
 use Rattle.ccr_wiring.specs.Wirings.{Placement, branch_of, segment_of, actions_of, exception_port}
@@ -97,8 +97,8 @@ play_is s h t f found its =
     let at_branch : play_at w (branch_of f.spot) (segment_of f.spot) (load_at w h (branch_of f.spot) (segment_of f.spot) t) ≡ play_at w takes.number 0 (with_messages no_load (messages_of h t)) = ap (λ spot. play_at w (branch_of spot) (segment_of spot) (load_at w h (branch_of spot) (segment_of spot) t)) takes.spot in
     let one : play_at w takes.number 0 (with_messages no_load (messages_of h t)) ≡ play_at w takes.number 0 (with_messages no_load (takes.message ∷ [])) = ap (λ ms. play_at w takes.number 0 (with_messages no_load ms)) takes.its in
     let loaded : play_at w takes.number 0 (with_messages no_load (takes.message ∷ [])) ≡ play_at w takes.number 0 (record { values = (its.asked.ask.value ∷ []) ∷ []; causes = its.client ∷ [] }) = ap (play_at w takes.number 0) (load_one takes.message its.client its.asked.ask.value its.asked.value its.asked.causes) in
-    let placed : play_at w takes.number 0 (record { values = (its.asked.ask.value ∷ []) ∷ []; causes = its.client ∷ [] }) ≡ play (exception_port w) ((its.asked.ask.value ∷ []) ∷ []) 0 (its.client ∷ []) (actions_of w takes.place.branch.handler) = ap (λ o. play (exception_port w) ((its.asked.ask.value ∷ []) ∷ []) 0 (its.client ∷ []) (option_map_or (λ (r : Placement). actions_of w r.branch.handler) o [])) takes.is_place in
-    at_spot ∙ at_branch ∙ one ∙ loaded ∙ placed ∙ play_by_role s takes.place takes.facts its.client its.asked.ask.value its.asked.part its.asked.is_part (subst (λ v. holds takes.facts.pred v ≡ true) its.asked.value takes.holds_so) takes.facts.serves.role
+    let placed : play_at w takes.number 0 (record { values = (its.asked.ask.value ∷ []) ∷ []; causes = its.client ∷ [] }) ≡ play (exception_port w) ((its.asked.ask.value ∷ []) ∷ []) 0 (its.client ∷ []) (actions_of w takes.placement.branch.handler) = ap (λ o. play (exception_port w) ((its.asked.ask.value ∷ []) ∷ []) 0 (its.client ∷ []) (option_map_or (λ (r : Placement). actions_of w r.branch.handler) o [])) takes.is_placement in
+    at_spot ∙ at_branch ∙ one ∙ loaded ∙ placed ∙ play_by_role s takes.placement takes.facts its.client its.asked.ask.value its.asked.part its.asked.is_part (subst (λ v. holds takes.facts.pred v ≡ true) its.asked.value takes.holds_so) takes.facts.serves.role
 
 -- it has one post
 pub one_post : (s : ServiceParts) (op : ℕ) (part : OpPart) (client value : ℕ) → (x : Sent) × ((reply s op part client value).posts ≡ x ∷ [])

@@ -25,7 +25,7 @@ use Rattle.ccr_model.proofs.FiredTasks.{IsFired, placement_fired}
 use Rattle.ccr_model.proofs.SameNames.{same_task-self, same_task-is}
 use Rattle.ccr_model.specs.Interleaves.{is_placement_in}
 use Rattle.ccr_model.proofs.TaskLists.{to_filter, to_without, not_more, no_members}
-use Rattle.ccr_model.proofs.TaskPlaces.{placement_by, QueuedFacts-queued}
+use Rattle.ccr_model.proofs.WhoWasPut.{placement_by, QueuedFacts-queued}
 use Rattle.ccr_model.proofs.AllowedFirings.{BranchFacts-where, WaitingFacts-waiting}
 use Rattle.ccr_model.proofs.Cutting.{CutFacts-legal}
 use Rattle.ccr_model.proofs.Roots.{root_own, AdmittedFacts, AdmittedFacts-admitted}
@@ -110,7 +110,7 @@ none_lasts w fit none h legal quiet end i = no_members (admitted w h i) (λ t is
         uncut = refuted (has_task (cut h) t) (λ is. no_both facts.entered ((CutFacts-legal w h legal).not_ever_admitted t is))
 
         own : root_of h t ≡ t
-        own = let place = at_branches w none h legal t fired.0 fired.1 in root_own h t fired.0 place.0 fired.1 place.1
+        own = let branch = at_branches w none h legal t fired.0 fired.1 in root_own h t fired.0 branch.0 fired.1 branch.1
 
         last : has_task (last_segments h) t ≡ true → ⊥
         last is = no_both (over_so h t own is) facts.lasts
@@ -143,11 +143,11 @@ none_waits w h legal quiet over i = by_list (waiting w h i) refl
     by_list (t ∷ ts) is =
         let among : has_task (waiting w h i) t ≡ true = rw is (or_left (same_task t t) (has_task ts t) (same_task-self t)) in
         let facts = WaitingFacts-waiting w h i t (OneName-legal w h legal) among in
-        let place = BranchFacts-where w (is_placement_in i) facts.firing.spot facts.is_branch in
-        let seated : placement_of w h t ≡ Some place.place = placement_by w h t facts.firing facts.is_firing ∙ ap (λ s. placement w (branch_of s)) place.is_branch ∙ place.is_place in
-        let number = same_number place.place.domain i (both (is_interleave place.place.kind) (place.place.domain == i) place.passes).1 in
+        let branch = BranchFacts-where w (is_placement_in i) facts.firing.spot facts.is_branch in
+        let seated : placement_of w h t ≡ Some branch.placement = placement_by w h t facts.firing facts.is_firing ∙ ap (λ s. placement w (branch_of s)) branch.is_branch ∙ branch.is_placement in
+        let number = same_number branch.placement.domain i (both (is_interleave branch.placement.kind) (branch.placement.domain == i) branch.passes).1 in
         let oldest : is_oldest_waiting w h t ≡ true = rw (seated, number, is) (same_task-self t) in
-        let enters : may_admit w h t ≡ true = rw (seated, over place.place.domain) (free (is_concurrent place.place.branch.group)) in
+        let enters : may_admit w h t ≡ true = rw (seated, over branch.placement.domain) (free (is_concurrent branch.placement.branch.group)) in
         absurd (quiet (Admit t) (rw (oldest, enters) refl))
       where
         free : (b : Bool) → (if b then list_all (is_concurrent_task w h) [] else is_none_of []) ≡ true

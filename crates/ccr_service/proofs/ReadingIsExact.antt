@@ -10,7 +10,7 @@ use Rattle.ccr_base.specs.declared.policies.Group.TheVariants as groups
 use Rattle.ccr_base.specs.declared.handlers.Expr.{Expr}
 use Rattle.ccr_base.specs.declared.handlers.Expr.TheVariants as exprs
 use Rattle.ccr_text.specs.declared.lines.Line.{Line}
-use Rattle.ccr_text.specs.Lines.{cut, numbered}
+use Rattle.ccr_text.specs.Lines.{split_text, numbered}
 use Rattle.ccr_text.specs.Names.{meaning_of}
 use Rattle.ccr_text.specs.Fields.{Words, ◌>>=◌, unless, or_code, limited, word, no_more, number, number_within, policy}
 use Rattle.ccr_text.specs.Words.{number_of, is_clean, is_comment, words_of, IsSkipped}
@@ -36,9 +36,9 @@ use Rattle.ccr_wiretext.specs.Answers.{IsReading}
 use Rattle.ccr_wiretext.proofs.ReadTellsSteps.{bind_ok as then_ok}
 use Rattle.ccr_service.specs.Services.{is_service_name}
 use Rattle.ccr_service.specs.Grammar.{IsNew, IsGroup, IsExpr, IsBound, IsOp, IsAsk, IsPolicyLine, IsClient, IsLine, Declares, IsWhole, Says, IsText, IsNoText}
-use Rattle.ccr_service.proofs.Keeping.{same_ok, reading_on}
+use Rattle.ccr_service.proofs.Keeping.{same_ok, reading_on, group_by}
 
--- ---- what is read is said: places
+-- ---- what is read is said: fields
 
 record NewSaid (names : Naming) (words : Words) (p : List ℕ × Words) : Type 0 where
   spelled : words ≡ p.0 ∷ p.1
@@ -80,9 +80,6 @@ record GroupSaid (words : Words) (p : Group × Words) : Type 0 where
   spelled : words ≡ word ∷ p.1
   is : IsGroup word p.0
 
-abbrev group_by : Bool → Bool → Bool → Words → Result (Group × Words) ℕ
-group_by x y z rest = if x then Ok (groups.Teardown, rest) else if y then Ok (groups.Exclusive, rest) else if z then Ok (groups.Concurrent, rest) else Err 3
-
 group_said : (words : Words) (p : Group × Words) → group words ≡ Ok p → GroupSaid words p
 unfolding group
 group_said words p e =
@@ -101,7 +98,7 @@ record ExprSaid (words : Words) (p : Expr × Words) : Type 0 where
   is : IsExpr front p.0
 
 abbrev expr_by : Bool → Bool → Bool → List ℕ → Words → Result (Expr × Words) ℕ
-expr_by x y z name rest = if x then Ok (exprs.Sum, rest) else if y then Ok (exprs.Count, rest) else if z then (number_within 0 65535 rest >>= λ place. Ok (exprs.Arg place.0, place.1)) else (or_code (number_of name) 5 >>= λ n. Ok (exprs.Number (n ∷ []), rest))
+expr_by x y z name rest = if x then Ok (exprs.Sum, rest) else if y then Ok (exprs.Count, rest) else if z then (number_within 0 65535 rest >>= λ message. Ok (exprs.Arg message.0, message.1)) else (or_code (number_of name) 5 >>= λ n. Ok (exprs.Number (n ∷ []), rest))
 
 expr_said : (words : Words) (p : Expr × Words) → expr words ≡ Ok p → ExprSaid words p
 unfolding expr
@@ -288,11 +285,11 @@ lines_said so last n (line ∷ lines) parts is = by_clean (is_clean line) refl (
 
 -- what is read is said
 pub says : (text : List ℕ) (result : Result ServiceParts ReadRefused) → IsReading result (reading_text text) → IfOk result (λ parts. IsText text parts)
-says text (Ok parts) is = lines_said None 0 1 (cut text) parts is
+says text (Ok parts) is = lines_said None 0 1 (split_text text) parts is
 says text (Err refused) is = tt
 
 pub said_of : (text : List ℕ) (parts : ServiceParts) → reading_text text ≡ Ok parts → IsText text parts
-said_of text parts is = lines_said None 0 1 (cut text) parts is
+said_of text parts is = lines_said None 0 1 (split_text text) parts is
 
 -- ---- what is said is read
 
@@ -326,7 +323,7 @@ expr_read front exprs.Sum rest is = rw is refl
 expr_read front exprs.Count rest is = rw is refl
 expr_read front (exprs.Arg k) rest is = rw (is.1, within_read 0 65535 is.0 k rest is.2) refl
 expr_read front (exprs.Number value) rest is = rw (is.2, is.3, no_key is.0 (codes "sum") is.1 is.4 refl, no_key is.0 (codes "count") is.1 is.4 refl, no_key is.0 (codes "arg") is.1 is.4 refl, is.4) refl
-expr_read front (exprs.Part message place) rest is = absurd is
+expr_read front (exprs.Part message index) rest is = absurd is
 
 bound_read : (most : Words) (o : Option ℕ) → IsBound most o → bound most ≡ Ok (o, [])
 unfolding bound
@@ -417,4 +414,4 @@ lines_read so last n (line ∷ lines) parts (clean, inr next) = next_read so nex
 pub says_nothing : (text : List ℕ) (result : Result ServiceParts ReadRefused) → IsReading result (reading_text text) → IfErr result (λ refused. IsNoText text refused)
 says_nothing text (Ok parts) is = tt
 says_nothing text (Err refusals.Memory) is = tt
-says_nothing text (Err (refusals.At line code)) is = λ parts said. absurd (let h : Err (line, code) ≡ Ok parts = sym is ∙ lines_read None 0 1 (cut text) parts said in cc)
+says_nothing text (Err (refusals.At line code)) is = λ parts said. absurd (let h : Err (line, code) ≡ Ok parts = sym is ∙ lines_read None 0 1 (split_text text) parts said in cc)

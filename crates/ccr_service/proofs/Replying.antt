@@ -30,7 +30,7 @@ use Rattle.ccr_model.proofs.Stable.{firing_named-append, play_of-append}
 use Rattle.ccr_model.proofs.Ending.{RunningFacts-running}
 use Rattle.ccr_model.proofs.FiredTasks.{IsFired}
 use Rattle.ccr_model.proofs.TaskLists.{among_left}
-use Rattle.ccr_model.proofs.TaskPlaces.{ArePlaced-legal}
+use Rattle.ccr_model.proofs.WhoWasPut.{ArePlaced-legal}
 use Rattle.ccr_service.specs.declared.parts.ServiceParts.{ServiceParts}
 use Rattle.ccr_service.specs.Expansion.{expansion}
 use Rattle.ccr_service.specs.Replies.{posted_by}

@@ -10,12 +10,13 @@ use Rattle.ccr_base.specs.declared.patterns.Pred.{Pred}
 use Rattle.ccr_base.specs.declared.patterns.Pred.TheVariants.{Any, Lt, Ge}
 use Rattle.ccr_base.specs.declared.patterns.Slot.{Slot}
 use Rattle.ccr_base.specs.declared.patterns.Pattern.TheVariants.{Slots}
-use Rattle.ccr_base.specs.Choice.{holds}
+use Rattle.ccr_base.specs.Selection.{holds}
 use Rattle.ccr_wiring.specs.declared.parts.BranchPart.{BranchPart}
 use Rattle.ccr_wiring.specs.declared.parts.Kind.TheVariants as kinds
 use Rattle.ccr_wiring.specs.Wirings.{Placement, placement, placements, in_domain, actions_of, awaited}
+use Rattle.ccr_wiring.specs.Wirings as wirings
 use Rattle.ccr_wiring.specs.Valid.{HasQueues}
-use Rattle.ccr_model.proofs.Members.{Among, Among-left, Among-right, Among-either, Among-at, place_of}
+use Rattle.ccr_model.proofs.Members.{Among, Among-left, Among-right, Among-either, Among-at, index_of}
 use Rattle.ccr_wiring.proofs.Positions.{get-front, get-back}
 use Rattle.ccr_service.specs.declared.parts.OpPart.{OpPart}
 use Rattle.ccr_service.specs.declared.parts.ServiceParts.{ServiceParts}
@@ -120,11 +121,11 @@ PlacementFacts-placement s b r is =
 -- each value has a branch of the operation that takes it
 pub record TakesIt (s : ServiceParts) (op value : ℕ) : Type 0 where
   pub number : ℕ
-  pub place : Placement
-  pub is_place : placement (expansion s) number ≡ Some place
+  pub placement : Placement
+  pub is_placement : wirings.placement (expansion s) number ≡ Some placement
   pub pred : Pred
   pub part : OpPart
-  pub serves : Serves (length s.ops) op part place.branch pred
+  pub serves : Serves (length s.ops) op part placement.branch pred
   pub holds_so : holds pred (value ∷ []) ≡ true
 
 takes_branch : (faults op value : ℕ) (part : OpPart) (o : Option ℕ) → part.below ≡ o → (b : BranchPart) × Among b (op_branches faults op part o) × ((pred : Pred) × Serves faults op part b pred × (holds pred (value ∷ []) ≡ true))
@@ -140,8 +141,8 @@ TakesIt-op s op value part at =
     let its = takes_branch (length s.ops) op value part part.below refl in
     let e : op ≡ 0 + op = omega arith in
     let among = among_all (length s.ops) 0 op s.ops part its.0 at (subst (λ i. Among its.0 (op_branches (length s.ops) i part part.below)) e its.1) in
-    let place = place_of (placements (expansion s)) (seated its.0) (subst (Among (seated its.0)) (sym (placements_are s)) (map_among (branches_from (length s.ops) 0 s.ops) its.0 among)) in
-    record { number = place.0; place = seated its.0; is_place = place.1; pred = its.2.0; part = part; serves = its.2.1; holds_so = its.2.2 }
+    let index = index_of (placements (expansion s)) (seated its.0) (subst (Among (seated its.0)) (sym (placements_are s)) (map_among (branches_from (length s.ops) 0 s.ops) its.0 among)) in
+    record { number = index.0; placement = seated its.0; is_placement = index.1; pred = its.2.0; part = part; serves = its.2.1; holds_so = its.2.2 }
 
 -- ---- handlers
 

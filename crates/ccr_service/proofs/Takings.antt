@@ -9,13 +9,14 @@ use Rattle.ccr_base.specs.declared.messages.Msg.{Msg}
 use Rattle.ccr_base.specs.declared.patterns.Pred.{Pred}
 use Rattle.ccr_base.specs.declared.patterns.Pattern.{Pattern}
 use Rattle.ccr_base.specs.declared.patterns.Pattern.TheVariants.{Slots}
-use Rattle.ccr_base.specs.Choice.{holds, fitting, choice}
+use Rattle.ccr_base.specs.Selection.{holds, fitting, selection}
 use Rattle.ccr_base.specs.Names.{same_message, has_message, same_lists}
 use Rattle.ccr_wiring.specs.Wirings.{Placement, placement}
+use Rattle.ccr_wiring.specs.Wirings as wirings
 use Rattle.ccr_model.specs.declared.history.Event.{Event}
 use Rattle.ccr_model.specs.declared.history.Event.TheVariants.{Post, Fire, Admit, Put, Start, End}
 use Rattle.ccr_model.specs.Posts.{posts, posted, taken, held, messages_named}
-use Rattle.ccr_model.specs.Choice.{names_of, choice_of_slots, is_choice_of}
+use Rattle.ccr_model.specs.Selection.{names_of, selection_of_slots, is_selection_of}
 use Rattle.ccr_model.specs.Firings.{Firing, firing_of, firing_named}
 use Rattle.ccr_model.specs.TaskData.{messages_of}
 use Rattle.ccr_model.specs.Legal.{IsAllowed, IsLegal}
@@ -44,7 +45,7 @@ record TakesOne (pred : Pred) (ms xs : List Msg) : Type 0 where
   among : Among message ms
   holds_so : holds pred message.value ≡ true
 
-takes_one_of : (port : ℕ) (pred : Pred) (ms xs : List Msg) → choice (one_slot port pred) ms ≡ Some xs → TakesOne pred ms xs
+takes_one_of : (port : ℕ) (pred : Pred) (ms xs : List Msg) → selection (one_slot port pred) ms ≡ Some xs → TakesOne pred ms xs
 takes_one_of port pred ms xs is = by_list (fitting pred ms) refl is
   where
     by_list : (fs : List Msg) → fitting pred ms ≡ fs → (if nat_le 1 (length fs) then Some (take 1 fs) else None) ≡ Some xs → TakesOne pred ms xs
@@ -59,7 +60,7 @@ takes_one_of port pred ms xs is = by_list (fitting pred ms) refl is
         front true e is = cc
         front false e is = absurd (cc)
 
--- what a choice of that pattern names
+-- what a selection of that pattern names
 record NamesOne (h : List Event) (port : ℕ) (pred : Pred) (names : List MsgId) : Type 0 where
   message : Msg
   named : names ≡ message.id ∷ []
@@ -67,10 +68,10 @@ record NamesOne (h : List Event) (port : ℕ) (pred : Pred) (names : List MsgId)
   port_so : message.port ≡ port
   holds_so : holds pred message.value ≡ true
 
-names_one : (h : List Event) (port : ℕ) (pred : Pred) (names : List MsgId) → is_choice_of (held h) (Slots (one_slot port pred ∷ [])) names ≡ true → NamesOne h port pred names
+names_one : (h : List Event) (port : ℕ) (pred : Pred) (names : List MsgId) → is_selection_of (held h) (Slots (one_slot port pred ∷ [])) names ≡ true → NamesOne h port pred names
 names_one h port pred names is =
-    let got = some_of (λ (ms : List Msg). same_lists same_message (names_of ms) names) (choice_of_slots (held h) (one_slot port pred ∷ [])) is in
-    let parts = joined_some (choice (one_slot port pred) (held h port)) (Some []) got.0 got.1 in
+    let got = some_of (λ (ms : List Msg). same_lists same_message (names_of ms) names) (selection_of_slots (held h) (one_slot port pred ∷ [])) is in
+    let parts = joined_some (selection (one_slot port pred) (held h port)) (Some []) got.0 got.1 in
     let one = takes_one_of port pred (held h port) parts.0 parts.2 in
     let nothing : parts.1 ≡ [] = let e : Some [] ≡ Some parts.1 = parts.3 in cc in
     let whole : got.0 ≡ one.message ∷ [] = sym parts.4 ∙ ap (λ ms. parts.0 ++ ms) nothing ∙ append-nil parts.0 ∙ one.all in
@@ -83,9 +84,9 @@ names_one h port pred names is =
 pub record Takes (s : ServiceParts) (h : List Event) (t : TaskId) (f : Firing) : Type 0 where
   pub number : ℕ
   pub spot : f.spot ≡ Branch number
-  pub place : Placement
-  pub is_place : placement (expansion s) number ≡ Some place
-  pub facts : PlacementFacts s place
+  pub placement : Placement
+  pub is_placement : wirings.placement (expansion s) number ≡ Some placement
+  pub facts : PlacementFacts s placement
   pub message : Msg
   pub named : f.messages ≡ message.id ∷ []
   pub among : Among message (posts h)
@@ -98,8 +99,8 @@ takes_on s h es t f is old =
     record {
       number = old.number;
       spot = old.spot;
-      place = old.place;
-      is_place = old.is_place;
+      placement = old.placement;
+      is_placement = old.is_placement;
       facts = old.facts;
       message = old.message;
       named = old.named;
@@ -113,10 +114,10 @@ takes_new : (s : ServiceParts) (h : List Event) → IsLegal (expansion s) h → 
 takes_new s h legal x b ms cs allowed =
     let e : Event = Fire x (Branch b) ms cs in
     let new = (FiresSo-allowed (expansion s) h x (Branch b) ms cs allowed).new_name in
-    let chosen = (FireFacts-allowed (expansion s) h x (Branch b) ms cs allowed).choice_made in
-    let found = some_of (λ (r : Placement). is_choice_of (held h) r.branch.pattern ms) (placement (expansion s) b) chosen in
+    let chosen = (FireFacts-allowed (expansion s) h x (Branch b) ms cs allowed).selection_made in
+    let found = some_of (λ (r : Placement). is_selection_of (held h) r.branch.pattern ms) (placement (expansion s) b) chosen in
     let facts = PlacementFacts-placement s b found.0 found.1 in
-    let pattern : is_choice_of (held h) (Slots (one_slot (request_port facts.op) facts.pred ∷ [])) ms ≡ true = subst (λ (p : Pattern). is_choice_of (held h) p ms ≡ true) facts.serves.pattern found.2 in
+    let pattern : is_selection_of (held h) (Slots (one_slot (request_port facts.op) facts.pred ∷ [])) ms ≡ true = subst (λ (p : Pattern). is_selection_of (held h) p ms ≡ true) facts.serves.pattern found.2 in
     let one = names_one h (request_port facts.op) facts.pred ms pattern in
     let known = named_so (expansion s) h legal one.message one.among in
     let first : messages_of (h ++ e ∷ []) x ≡ messages_named h ms = rw (firing_named-new h x (Branch b) ms cs new, before-new h x (Branch b) ms cs new) refl in
@@ -125,8 +126,8 @@ takes_new s h legal x b ms cs allowed =
     record {
       number = b;
       spot = refl;
-      place = found.0;
-      is_place = found.1;
+      placement = found.0;
+      is_placement = found.1;
       facts = facts;
       message = one.message;
       named = one.named;

@@ -16,8 +16,8 @@ use Rattle.ccr_model.specs.Firings.{cut, dropped}
 use Rattle.ccr_model.specs.Fates.{taker}
 use Rattle.ccr_model.specs.Legal.{IsLegal, IsQuiet, is_complete}
 use Rattle.ccr_model.proofs.Members.{Among-at}
-use Rattle.ccr_service.specs.declared.replies.Answer.{Answer}
-use Rattle.ccr_service.specs.declared.replies.Answer.TheVariants as told
+use Rattle.ccr_service.specs.declared.answer.Answer.{Answer}
+use Rattle.ccr_service.specs.declared.answer.Answer.TheVariants as told
 use Rattle.ccr_service.specs.declared.parts.AskPart.{AskPart}
 use Rattle.ccr_service.specs.declared.parts.ClientPart.{ClientPart}
 use Rattle.ccr_service.specs.declared.parts.OpPart.{OpPart}

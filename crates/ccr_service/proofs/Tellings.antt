@@ -8,7 +8,7 @@ use Rattle.indexmap.specs.IndexSet.{contains}
 use Rattle.ccr_base.specs.declared.names.TaskId.{TaskId}
 use Rattle.ccr_base.specs.declared.messages.Msg.{Msg}
 use Rattle.ccr_base.specs.Names.{same_task}
-use Rattle.ccr_service.specs.declared.replies.Answer.TheVariants as told
+use Rattle.ccr_service.specs.declared.answer.Answer.TheVariants as told
 use Rattle.ccr_service.specs.declared.tables.RequestId.{RequestId}
 use Rattle.ccr_service.specs.declared.tables.Tables.{Tables}
 use Rattle.ccr_service.specs.Telling.{same_request, told_by, told_from}

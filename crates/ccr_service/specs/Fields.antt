@@ -43,7 +43,7 @@ expr words = do
   name ← word words
   if bytes_eq name.0 (codes "sum") then Ok (exprs.Sum, name.1) else
       if bytes_eq name.0 (codes "count") then Ok (exprs.Count, name.1) else
-      if bytes_eq name.0 (codes "arg") then (number_within 0 most_arg name.1 >>= λ place. Ok (exprs.Arg place.0, place.1)) else
+      if bytes_eq name.0 (codes "arg") then (number_within 0 most_arg name.1 >>= λ message. Ok (exprs.Arg message.0, message.1)) else
       (or_code (number_of name.0) 5 >>= λ number. Ok (exprs.Number (number ∷ []), name.1))
 
 -- nothing, or below N

@@ -6,7 +6,7 @@ use Rattle.ccr_base.specs.declared.policies.Group.{Group}
 use Rattle.ccr_base.specs.declared.policies.Group.TheVariants as groups
 use Rattle.ccr_base.specs.declared.handlers.Expr.{Expr}
 use Rattle.ccr_base.specs.declared.handlers.Expr.TheVariants as exprs
-use Rattle.ccr_text.specs.Lines.{cut}
+use Rattle.ccr_text.specs.Lines.{split_text}
 use Rattle.ccr_text.specs.Names.{meaning_of}
 use Rattle.ccr_text.specs.Fields.{Words}
 use Rattle.ccr_text.specs.Words.{is_clean, words_of, IsSkipped}
@@ -112,7 +112,7 @@ Says so (line ∷ lines) parts = (is_clean line ≡ true) × ((IsSkipped (words_
 
 -- the text says these parts
 abbrev pub IsText : List ℕ → ServiceParts → Type 0
-IsText text parts = Says None (cut text) parts
+IsText text parts = Says None (split_text text) parts
 
 -- where a line is refused, the text says nothing
 abbrev pub IsNoText : List ℕ → ReadRefused → Type 0

@@ -13,8 +13,8 @@ use Rattle.ccr_model.specs.declared.history.Event.{Event}
 use Rattle.ccr_model.specs.Posts.{posts, is_message_of}
 use Rattle.ccr_model.specs.Firings.{cut, dropped}
 use Rattle.ccr_model.specs.Fates.{taker}
-use Rattle.ccr_service.specs.declared.replies.Answer.{Answer}
-use Rattle.ccr_service.specs.declared.replies.Answer.TheVariants as told
+use Rattle.ccr_service.specs.declared.answer.Answer.{Answer}
+use Rattle.ccr_service.specs.declared.answer.Answer.TheVariants as told
 use Rattle.ccr_service.specs.declared.parts.AskPart.{AskPart}
 use Rattle.ccr_service.specs.declared.parts.ClientPart.{ClientPart}
 use Rattle.ccr_service.specs.declared.parts.ServiceParts.{ServiceParts}

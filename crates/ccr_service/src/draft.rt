@@ -9,7 +9,7 @@ ghost use Rattle.ccr_service.specs.Drafts.{nothing, with_policy, with_op, with_c
 use crate::fields::{bound, expr, group, new_name, op_name};
 use crate::names::OpOrClient;
 use crate::{AskPart, ClientPart, OpPart, ServiceParts};
-use ccr_base::{List, Name, OutOfMemory, Policy};
+use ccr_base::{List, OutOfMemory, Policy, name_of};
 use ccr_text::{Code, Cursor, Names, Stop, is_text};
 use ccr_wiring::MAX_POLICY;
 use std::alloc::Global;
@@ -41,12 +41,6 @@ impl Model for ServiceDraft {
     ghost Value = { Drafted };
 
     ghost view = { λ draft. record { parts = draft.parts; policied = draft.policied; names = draft.names; asks = draft.asks; block = draft.block } };
-}
-
-fn copy_of(alloc: Global, name: &[u8]) -> Result<Name, OutOfMemory>
-    ensures { IfOk result (λ copy. copy ≡ name.now) }
-{
-    Ok(List::from_vec(Vec::from_slice(alloc, name)?))
 }
 
 impl ServiceDraft {
@@ -90,7 +84,7 @@ impl ServiceDraft {
         ensures { OnOk result (self.new ≡ with_client self.old name.now) }
     {
         self.names.add(name, OpOrClient::Client)?;
-        let name = copy_of(self.alloc, name)?;
+        let name = name_of(self.alloc, name)?;
         let asks = List::new(self.alloc);
         self.block = Some(ClientPart { name, asks });
         Ok(())
@@ -142,7 +136,7 @@ impl ServiceDraft {
         let below = bound(&mut words)?;
         words.no_more()?;
         Ok(OpPart {
-            name: copy_of(self.alloc, name)?,
+            name: name_of(self.alloc, name)?,
             group,
             expr,
             below,

@@ -10,19 +10,13 @@ ghost use Rattle.ccr_service.specs.Services.{IsService, are_asked};
 use crate::{AskPart, ClientPart, OpPart, Service, ServiceParts};
 use ccr_base::{
     Action, CauseNo, Expr, Group, Handler, HandlerNo, List, Name, OutOfMemory, Pattern, PortNo,
-    Pred, Sent, Slot, Value,
+    Pred, Sent, Slot, Value, name_of,
 };
 use ccr_wiring::{
     ArbiterPart, BranchPart, CausePart, HandlerPart, Kind, MAX_BUDGET, Parts, PosterPart,
     QueuePart, ScriptPost, Unfit, Wiring,
 };
 use std::alloc::Global;
-
-fn name(alloc: Global, bytes: &[u8]) -> Result<Name, OutOfMemory>
-    ensures { IfOk result (λ name. name ≡ bytes.now) }
-{
-    Ok(List::from_vec(Vec::from_slice(alloc, bytes)?))
-}
 
 fn name_with(alloc: Global, name: &Name, suffix: &[u8]) -> Result<Name, OutOfMemory>
     ensures { IfOk result (λ whole. whole ≡ name.now ++ suffix.now) }
@@ -124,7 +118,7 @@ fn handlers(alloc: Global, ops: &[OpPart]) -> Result<List<HandlerPart>, OutOfMem
     let mut parts = Vec::new(alloc);
     add_handlers(alloc, &mut parts, ops)?;
     if has_bounded(ops) {
-        parts.push(one_action(alloc, name(alloc, b"svc-e")?, Action::Fail(Expr::Arg(0)))?)?;
+        parts.push(one_action(alloc, name_of(alloc, b"svc-e")?, Action::Fail(Expr::Arg(0)))?)?;
     }
     Ok(List::from_vec(parts))
 }
@@ -201,7 +195,7 @@ fn interleave(alloc: Global, ops: &[OpPart]) -> Result<ArbiterPart, OutOfMemory>
     ensures { IfOk result (λ part. part ≡ interleave ops.now) }
 {
     Ok(ArbiterPart {
-        name: name(alloc, b"svc-i")?,
+        name: name_of(alloc, b"svc-i")?,
         kind: Kind::Interleave,
         branches: branches(alloc, ops.len() as HandlerNo, ops)?,
     })
@@ -259,7 +253,7 @@ fn parts(alloc: Global, service: &ServiceParts) -> Result<Parts, OutOfMemory>
     let ops = service.ops.as_slice();
     let count = ops.len() as PortNo;
     let queue = QueuePart {
-        name: name(alloc, b"svc-q")?,
+        name: name_of(alloc, b"svc-q")?,
         policy: service.policy,
     };
     Ok(Parts {

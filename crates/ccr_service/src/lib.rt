@@ -1,6 +1,7 @@
 //! A service language: its parts, the wiring that they expand to, and what holds of each history of an expansion.
 #![tactic(auto)]
 
+mod answer;
 mod draft;
 mod expanding;
 mod fields;
@@ -8,17 +9,16 @@ mod laws;
 mod names;
 mod parts;
 mod reading;
-mod replies;
 mod service;
 mod stillness;
 mod tables;
 mod telling;
 
+pub use answer::Answer;
 pub use expanding::expand;
 pub use laws::requests_have_one_answer;
 pub use parts::{AskPart, ClientPart, OpPart, ServiceParts};
 pub use reading::read_service;
-pub use replies::Answer;
 pub use service::Service;
 pub use stillness::quiet_is_still;
 pub use telling::answers;

@@ -1,4 +1,4 @@
-//! The parts of a service, as plain data. An operation's number is its place, from 0.
+//! The parts of a service, as plain data. An operation's number is its index, from 0.
 
 use ccr_base::{Expr, Group, List, Name, Policy};
 

@@ -32,7 +32,7 @@ impl Service {
         Service { parts }
     }
 
-    /// What the service says. An ask names its operation by its place, from 0.
+    /// What the service says. An ask names its operation by its index, from 0.
     pub fn parts(&self) -> &ServiceParts
         ensures parts { result.now ≡ self.now }
         ensures service { IsService self.now }

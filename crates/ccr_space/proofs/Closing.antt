@@ -41,7 +41,7 @@ use Rattle.ccr_object.specs.Starts.{placed_at, places_of}
 use Rattle.ccr_runs.specs.declared.entries.Entry.{Entry}
 use Rattle.ccr_runs.specs.Played.{entries_of, protocol, scene}
 use Rattle.ccr_runs.specs.EntryRuns.{never}
-use Rattle.ccr_space.specs.Spaces.{HasPlaces, HasSeat, IsPassOf, Pass, Space, actor_count, log, number, wiring_of}
+use Rattle.ccr_space.specs.Spaces.{HasPlaces, HasSeat, IsPassOf, Pass, Space, pass_count, log, number, wiring_of}
 use Rattle.ccr_space.specs.Closes.{IsClosed, IsKeptOf, IsOfLocks, PlaceAndHistory}
 
 by_side : {C : Type 0} (p n : ℕ) → (p < n → C) → (n ≤ p → C) → C
@@ -187,11 +187,11 @@ is_whole space seats kept its every = sym (its.part ∙ (ap (λ (k : Keep). map 
 -- so the entries of the closed locks are those of a run
 pub closed_by : (space : Space) (passes : List Pass) (seats : List (Seat PlaceObject Ask PlaceAnswer Deed Placed ghosts)) (acts : List (Act Deed)) (entries : List Entry)
     → HasPlaces space → All (λ (pass : Pass). IsPassOf space pass) passes → seats ≡ map (λ (pass : Pass). pass.seat) passes
-    → IsOfLocks space seats acts → ((actor : ℕ) → actor < actor_count space → HasSeat seats actor) → entries ≡ entries_of (wiring_of space) acts → IsClosed space passes entries
+    → IsOfLocks space seats acts → ((actor : ℕ) → actor < pass_count space → HasSeat seats actor) → entries ≡ entries_of (wiring_of space) acts → IsClosed space passes entries
 closed_by space passes seats acts entries stands passed these locks numbers told =
     let w = wiring_of space in
     let objects = starts space.turns in
-    let n = actor_count space in
+    let n = pass_count space in
     let long = zip_length (IsLeft placed after_deed IsGiven n) objects locks.kept locks.left in
     let few = each_all (λ (e : Act Deed). e.place < length objects) acts (subst (λ k. All (λ (e : Act Deed). e.place < k) acts) (sym long) locks.inside) in
     let whole_run = merged w objects locks.kept n acts stands.objects locks.left locks.parts few locks.sorted in

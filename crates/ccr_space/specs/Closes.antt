@@ -1,7 +1,7 @@
 -- What the closed locks tell.
 use Rattle.std.specs.Prelude.{◌≡◌, ◌⊎◌, ℕ, ◌<◌, ◌^◌, ◌==◌, true, All, List, [], length, map, None, Some, slice_get}
 use Rattle.std.specs.List.{AllZip, list_any}
-use Rattle.ccr_wiring.specs.Actors.{actor_count as count_of_actors}
+use Rattle.ccr_wiring.specs.Actors.{actor_count}
 use Rattle.ccr_wiring.specs.declared.parts.Parts.{Parts}
 use Rattle.ccr_claim.specs.declared.asks.Ask.{Ask}
 use Rattle.ccr_object.specs.declared.deed.PlaceAnswer.{PlaceAnswer}
@@ -27,7 +27,7 @@ use Rattle.ccr_runs.specs.Played.{protocol, scene, given_in, entries_of}
 use Rattle.ccr_runs.specs.EntryRuns.{IsRunAfter, never, replies_of}
 use Rattle.ccr_runs.specs.Visible.{visible}
 use Rattle.ccr_model.specs.declared.history.Event.{Event}
-use Rattle.ccr_space.specs.Spaces.{HasPass, HasPlaces, IsAtRest, IsPassOf, Pass, Space, actor_count, log, number, stopped_of, wiring_of}
+use Rattle.ccr_space.specs.Spaces.{HasPass, HasPlaces, IsAtRest, IsPassOf, Pass, Space, pass_count, log, number, stopped_of, wiring_of}
 
 -- the acts are a run of so many actors, in which none lacks memory
 abbrev pub IsPlayed : Parts → ℕ → List (Act Deed) → Type 0
@@ -46,7 +46,7 @@ pub record IsOfLocks (space : Space) (seats : List (Seat PlaceObject Ask PlaceAn
   -- at each place, by its number
   pub kept : List PlaceAndHistory
   -- each object is the one that its history leaves from its start, the stamps of the history rise, and each note was given
-  pub left : AllZip (IsLeft placed after_deed IsGiven (actor_count space)) (starts space.turns) kept
+  pub left : AllZip (IsLeft placed after_deed IsGiven (pass_count space)) (starts space.turns) kept
   -- the part of each place is that lock's history, and nothing stands elsewhere
   pub parts : (place : ℕ) (left : PlaceAndHistory) → slice_get kept place ≡ Some left → history_at place acts ≡ left.1
   pub inside : All (λ (act : Act Deed). act.place < length kept) acts
@@ -68,10 +68,10 @@ pub record IsKeptOf (space : Space) (seats : List (Seat PlaceObject Ask PlaceAns
 pub record IsClosed (space : Space) (passes : List Pass) (entries : List Entry) : Type 0 where
   pub acts : List (Act Deed)
   pub entries_are : entries ≡ entries_of (wiring_of space) acts
-  pub played : IsPlayed (wiring_of space) (actor_count space) acts
+  pub played : IsPlayed (wiring_of space) (pass_count space) acts
   pub locks : IsOfLocks space (map (λ (pass : Pass). pass.seat) passes) acts
   pub logs : All (λ (pass : Pass). story after_deed (number pass) (scene (wiring_of space)) acts ≡ log pass) passes
-  pub actors : (actor : ℕ) → actor < actor_count space → HasPass passes actor
+  pub actors : (actor : ℕ) → actor < pass_count space → HasPass passes actor
 
 -- the history is what the entries of the closed locks show, which are made nowhere
 pub record IsShownOf (space : Space) (passes : List Pass) (history : List Event) : Type 0 where
@@ -83,8 +83,8 @@ pub record IsShownOf (space : Space) (passes : List Pass) (history : List Event)
 pub record IsRested (wiring : Parts) (count : ℕ) (space : Space) (passes : List Pass) : Type 0 where
   pub has_places : HasPlaces space
   pub serves : wiring_of space ≡ wiring
-  pub count_is : actor_count space ≡ count
-  pub all : length passes ≡ actor_count space
+  pub count_is : pass_count space ≡ count
+  pub all : length passes ≡ pass_count space
   pub passes_are : All (λ (pass : Pass). IsPassOf space pass) passes
   pub resting : All (λ (pass : Pass). IsAtRest pass) passes
 
@@ -123,6 +123,6 @@ IsAtEnd wiring entries short actor = (list_any (λ n. n == actor) short ≡ true
 pub record IsOfRunToRest (wiring : Parts) (workers : ℕ) (history : List Event) (short : List ℕ) : Type 0 where
   pub entries : List Entry
   pub run : IsRunAfter wiring workers never [] entries
-  pub rest : (actor : ℕ) → actor < count_of_actors wiring workers → IsAtEnd wiring entries short actor
-  pub threads : IsBroughtToRest wiring (count_of_actors wiring workers) entries short
+  pub rest : (actor : ℕ) → actor < actor_count wiring workers → IsAtEnd wiring entries short actor
+  pub threads : IsBroughtToRest wiring (actor_count wiring workers) entries short
   pub shown : history ≡ visible entries

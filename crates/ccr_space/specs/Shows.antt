@@ -11,10 +11,10 @@ abbrev pub note_shown : ℕ → Option Note → List Event
 note_shown actor None = []
 note_shown actor (Some note) = shown actor note
 
--- what an entry shows
+-- what an act shows
 abbrev pub act_shown : Act Deed → List Event
 act_shown act = note_shown act.seat act.note.note
 
--- what the entries show, one after the other
+-- what the acts show, one after the other
 abbrev pub acts_shown : List (Act Deed) → List Event
 acts_shown acts = flat_map act_shown acts

@@ -44,9 +44,9 @@ Pass = PassOf Acting (Seat PlaceObject Ask PlaceAnswer Deed Placed ghosts)
 abbrev pub wiring_of : Space → Parts
 wiring_of space = space.wiring.now
 
--- how many actors it is for
-abbrev pub actor_count : Space → ℕ
-actor_count space = seat_count space.turns
+-- how many passes it is for: one for each actor
+abbrev pub pass_count : Space → ℕ
+pass_count space = seat_count space.turns
 
 -- each place of the wiring is there, with its object before all notes
 pub record HasPlaces (space : Space) : Type 0 where

@@ -15,7 +15,7 @@ use Rattle.ccr_model.specs.declared.history.Event.{Event}
 use Rattle.ccr_model.specs.declared.history.Event.TheVariants as events
 use Rattle.ccr_model.specs.Posts.{posts, held}
 use Rattle.ccr_model.specs.Firings.{Firing, firings, firing_of}
-use Rattle.ccr_model.specs.Choice.{is_choice, is_choice_of}
+use Rattle.ccr_model.specs.Selection.{is_selection, is_selection_of}
 use Rattle.ccr_model.specs.Legal.{IsAllowed, IsLegal}
 use Rattle.ccr_model.proofs.Members.{Among}
 use Rattle.ccr_base.proofs.Options.{some_of}
@@ -63,7 +63,7 @@ fewer c t n held posted owed mine bound few enough took sum more = by (nat_lt t 
         absurd (omega (arith, few, enough, took, sum, more, less))
 
 -- where it fires, it fired less often before than the list says
-fires_less : (w : Parts) → IsSteady w → HasPatternsFilled w → (n : ℕ → ℕ) → IsClosed w n → (h : List Event) → IsLegal w h → Within w n (firings h) → (b : ℕ) (s : Placement) → placement w b ≡ Some s → (names : List MsgId) → is_choice w h (Branch b) names ≡ true → times_at (firings h) b < n b
+fires_less : (w : Parts) → IsSteady w → HasPatternsFilled w → (n : ℕ → ℕ) → IsClosed w n → (h : List Event) → IsLegal w h → Within w n (firings h) → (b : ℕ) (s : Placement) → placement w b ≡ Some s → (names : List MsgId) → is_selection w h (Branch b) names ≡ true → times_at (firings h) b < n b
 fires_less w steady filled n closed h legal within b s is names chosen =
     let lack = some_among (lacks w n b) (slots_of s.branch.pattern) (closed b s is) in
     let slot = lack.0 in
@@ -75,10 +75,10 @@ fires_less w steady filled n closed h legal within b s is names chosen =
     fewer slot.least (times_at (firings h) b) (n b) (length (held h slot.port)) (posted_at slot.port (posts h)) (due w (at_port slot.port) (posts h) (firings h) + left (at_port slot.port) (posts h) 0 w.posters) (got w (times_at (firings h)) slot.port) (got w n slot.port)
     few off.1 bound (omega (arith, sum)) more
 
-some_seat : (w : Parts) (h : List Event) (b : ℕ) (names : List MsgId) → is_choice w h (Branch b) names ≡ true → (s : Placement) × (placement w b ≡ Some s)
-some_seat w h b names chosen = let its = some_of (λ (s : Placement). is_choice_of (held h) s.branch.pattern names) (placement w b) chosen in (its.0, its.1)
+some_seat : (w : Parts) (h : List Event) (b : ℕ) (names : List MsgId) → is_selection w h (Branch b) names ≡ true → (s : Placement) × (placement w b ≡ Some s)
+some_seat w h b names chosen = let its = some_of (λ (s : Placement). is_selection_of (held h) s.branch.pattern names) (placement w b) chosen in (its.0, its.1)
 
-bounded : (w : Parts) → IsSteady w → HasPatternsFilled w → (n : ℕ → ℕ) → IsClosed w n → (h : List Event) → IsLegal w h → Within w n (firings h) → (b : ℕ) → b < length (placements w) → (spot : Spot) (ms : List MsgId) → is_choice w h spot ms ≡ true → times_at (firings h) b + (if same_spot spot (Branch b) then 1 else 0) ≤ n b
+bounded : (w : Parts) → IsSteady w → HasPatternsFilled w → (n : ℕ → ℕ) → IsClosed w n → (h : List Event) → IsLegal w h → Within w n (firings h) → (b : ℕ) → b < length (placements w) → (spot : Spot) (ms : List MsgId) → is_selection w h spot ms ≡ true → times_at (firings h) b + (if same_spot spot (Branch b) then 1 else 0) ≤ n b
 bounded w steady filled n closed h legal within b known (Site a k) ms chosen = let old = within b known in omega (arith, old)
 bounded w steady filled n closed h legal within b known (Branch a) ms chosen = by (a == b) refl
   where
@@ -86,7 +86,7 @@ bounded w steady filled n closed h legal within b known (Branch a) ms chosen = b
     by false e = let old = within b known in rw e (omega (arith, old))
     by true e =
         let same : a ≡ b = same_number a b e in
-        let mine : is_choice w h (Branch b) ms ≡ true = subst (λ (x : ℕ). is_choice w h (Branch x) ms ≡ true) same chosen in
+        let mine : is_selection w h (Branch b) ms ≡ true = subst (λ (x : ℕ). is_selection w h (Branch x) ms ≡ true) same chosen in
         let its = some_seat w h b ms mine in
         let less = fires_less w steady filled n closed h legal within b its.0 its.1 ms mine in
         rw e (omega (arith, less))
@@ -96,7 +96,7 @@ within_kept w steady filled n closed h (events.Fire t spot ms cs) legal allowed 
   where
     one : (b : ℕ) → b < length (placements w) → times_at (firings h ++ firing_of (events.Fire t spot ms cs)) b ≤ n b
     one b known =
-        let more = bounded w steady filled n closed h legal within b known spot ms (FireFacts-allowed w h t spot ms cs allowed).choice_made in
+        let more = bounded w steady filled n closed h legal within b known spot ms (FireFacts-allowed w h t spot ms cs allowed).selection_made in
         let push = times_push (firings h) (record { task = t; spot = spot; messages = ms; cuts = cs }) b in
         omega (arith, more, push)
 within_kept w steady filled n closed h (events.Post m) legal allowed within = rw (firings-push, append-nil) within

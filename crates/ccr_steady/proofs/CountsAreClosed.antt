@@ -17,7 +17,7 @@ use Rattle.ccr_base.specs.declared.policies.Group.{Group}
 use Rattle.ccr_base.specs.declared.policies.Group.TheVariants as groups
 use Rattle.ccr_base.specs.declared.policies.Policy.{Policy}
 use Rattle.ccr_base.specs.declared.policies.Policy.TheVariants as policies
-use Rattle.ccr_base.specs.Choice.{is_choosable}
+use Rattle.ccr_base.specs.Selection.{is_choosable}
 use Rattle.ccr_base.specs.Names.{same_task, has_task}
 use Rattle.ccr_wiring.specs.declared.parts.Parts.{Parts}
 use Rattle.ccr_wiring.specs.declared.parts.QueuePart.{QueuePart}
@@ -55,7 +55,7 @@ use Rattle.ccr_model.proofs.Stable.{play_of-append}
 use Rattle.ccr_model.proofs.TasksLeft.{has_task-append, of_without, out_left}
 use Rattle.ccr_model.proofs.Ending.{AreEnded-legal, RunningFacts-running}
 use Rattle.ccr_model.proofs.AllowedFirings.{fired_by_named}
-use Rattle.ccr_model.proofs.TaskPlaces.{ArePlaced-legal}
+use Rattle.ccr_model.proofs.WhoWasPut.{ArePlaced-legal}
 use Rattle.ccr_steady.specs.Flow.{IsSteady, IsClosed, weigh, at_port, got, lacks, slots_of, is_any, is_open_pattern, is_lasting}
 use Rattle.ccr_steady.proofs.Paying.{planned, due, times_at}
 use Rattle.ccr_steady.proofs.Tasks.{ports_length, calm_play, calm_at, calm_from}

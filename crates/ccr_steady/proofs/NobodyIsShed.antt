@@ -23,7 +23,7 @@ use Rattle.ccr_model.specs.Legal.{IsAllowed, IsLegal, IsQuiet, has_shed, is_comp
 use Rattle.ccr_base.proofs.Booleans.{both, no_both}
 use Rattle.ccr_model.specs.Counts.{is_shed as is_shed_end}
 use Rattle.ccr_model.proofs.LegalParts.{along_legal}
-use Rattle.ccr_model.proofs.Members.{Among, Among-left}
+use Rattle.ccr_model.proofs.Members.{Among, Among-left, found_among}
 use Rattle.ccr_model.proofs.PostNames.{refused_not}
 use Rattle.ccr_model.proofs.OneMoreEvent.{posts-push, firings-push, ended-push, has_shed-push}
 use Rattle.ccr_model.proofs.SameNames.{same_task-is, same_task-self}
@@ -34,7 +34,6 @@ use Rattle.ccr_steady.proofs.Paying.{planned, due, times_at}
 use Rattle.ccr_steady.proofs.Sums.{summed_more}
 use Rattle.ccr_steady.proofs.Tasks.{by_other, by_script}
 use Rattle.ccr_steady.proofs.ClosedListsBound.{within_closed}
-use Rattle.ccr_steady.proofs.QuietTasksHaveEnded.{found_among}
 use Rattle.ccr_steady.proofs.CountsAreClosed.{planned_length, ended_fired}
 use Rattle.ccr_steady.proofs.Counts.{posts_balance, flows}
 use Rattle.ccr_model.proofs.TaskLists.{among_left as front_has}
@@ -97,7 +96,7 @@ shed_cheats w steady h t legal allowed =
     let owes : by_task (posts h) t < length (planned w firing.0.spot) = omega (arith, less, long) in
     record {
       firing = firing.0;
-      among = rw firings-push (Among-left firing.0 (firings h) [] (found_among (firings h) t firing.0 firing.1));
+      among = rw firings-push (Among-left firing.0 (firings h) [] (found_among (λ (g : Firing). same_task g.task t) (firings h) firing.0 firing.1));
       over = rw (ended-push, mine) (last_has (ended h));
       owes = rw (posts-push, append-nil, mine) owes;
     }

@@ -1,5 +1,5 @@
 -- In a quiet history of a steady wiring every task that fired has ended.
-use Rattle.std.proofs.Common.{◌≡◌, inl, inr, ℕ, ◌+◌, ◌<◌, Bool, true, false, List, [], ◌∷◌, ◌++◌, length, find, Option, Some, None, refl, sym, ◌∙◌, subst, arith}
+use Rattle.std.proofs.Common.{◌≡◌, ℕ, ◌+◌, ◌<◌, Bool, true, false, List, [], ◌∷◌, ◌++◌, length, find, Option, Some, None, refl, sym, ◌∙◌, subst, arith}
 use Rattle.std.specs.Prelude.{◌==◌, ◌&&◌, ◌||◌, if◌then◌else◌, IfSome}
 use Rattle.std.specs.List.{list_any, list_all}
 use Rattle.std.specs.Option.{option_map_or}
@@ -29,7 +29,7 @@ use Rattle.ccr_model.specs.Legal.{IsAllowed, IsLegal, IsQuiet}
 use Rattle.ccr_model.proofs.Allowing.{first_allowed, OneName-legal}
 use Rattle.ccr_model.proofs.ExclusiveRootsAreAlone.{ever_admitted_fired}
 use Rattle.ccr_base.proofs.Booleans.{no_both}
-use Rattle.ccr_model.proofs.Members.{Among}
+use Rattle.ccr_model.proofs.Members.{found_among}
 use Rattle.ccr_base.proofs.Options.{no_head, none_map}
 use Rattle.ccr_model.proofs.PlacementDomains.{placement-within}
 use Rattle.ccr_model.proofs.SameNames.{same_task-is, same_task-self}
@@ -38,7 +38,7 @@ use Rattle.ccr_model.proofs.AllowedFirings.{WaitingFacts-waiting}
 use Rattle.ccr_model.proofs.Roots.{root_own, AdmittedFacts-admitted}
 use Rattle.ccr_model.proofs.FiringPlacements.{firing_with_placement}
 use Rattle.ccr_laws.proofs.States.{is_in}
-use Rattle.ccr_model.proofs.TaskPlaces.{QueuedFacts-queued, placement_by}
+use Rattle.ccr_model.proofs.WhoWasPut.{QueuedFacts-queued, placement_by}
 use Rattle.ccr_steady.specs.Flow.{IsSteady}
 use Rattle.ccr_steady.proofs.Calm.{none_cut, none_dropped, are_over, at_branches}
 use Rattle.ccr_model.proofs.QuietAllowsNone.{NoneFirst, NoneFirst-first, start_none, admit_none, found_fired, find_among}
@@ -53,14 +53,6 @@ quiet_none w sound h legal quiet =
     by : (o : Option Event) → IfSome o (IsAllowed w h) → o ≡ None
     by None some = refl
     by (Some e) some = absurd (quiet e some)
-
-pub found_among : (fs : List Firing) (t : TaskId) (f : Firing) → find (λ (g : Firing). same_task g.task t) fs ≡ Some f → Among f fs
-found_among [] t f is = absurd cc
-found_among (g ∷ fs) t f is = by (same_task g.task t) is (found_among fs t f)
-  where
-    by : (b : Bool) → (if b then Some g else find (λ (g : Firing). same_task g.task t) fs) ≡ Some f → (find (λ (g : Firing). same_task g.task t) fs ≡ Some f → Among f fs) → Among f (g ∷ fs)
-    by true is more = let same : f ≡ g = cc in inl same
-    by false is more = inr (more is)
 
 ended_has : (past more : List Event) (t : TaskId) (how : EndHow) → has_task (ended (past ++ events.End t how ∷ more)) t ≡ true
 ended_has [] more t how = grind (arith, common_steps, same_task-self t)
@@ -87,7 +79,7 @@ none_queued w sound h none t is =
 -- a task that fired and does not wait has ended
 settled : (w : Parts) → IsSound w → IsSteady w → (h : List Event) → IsLegal w h → NoneFirst w (length w.posters) h → (t : TaskId) (f : Firing) → firing_named h t ≡ Some f → (Waits w h t → ⊥) → has_task (ended h) t ≡ true
 settled w sound steady h legal none t f found waits =
-    let r = firing_with_placement w h legal f (found_among (firings h) t f found) in
+    let r = firing_with_placement w h legal f (found_among (λ (g : Firing). same_task g.task t) (firings h) f found) in
     by (state_of w h t) (is_in w h t f r.0 found r.1)
   where
     by : (state : TaskState) → IsIn w h t state → has_task (ended h) t ≡ true
@@ -116,7 +108,7 @@ none_admitted w sound steady h legal none i t is =
     let facts = AdmittedFacts-admitted w h i t is in
     let firing = ever_admitted_fired w h legal t facts.entered in
     let done = settled w sound steady h legal none t firing.0 firing.1 (λ waits. no_both facts.entered (WaitingFacts-waiting w h waits.interleave t (OneName-legal w h legal) waits.among).not_ever_admitted) in
-    let spot = at_branches w steady h legal firing.0 (found_among (firings h) t firing.0 firing.1) in
+    let spot = at_branches w steady h legal firing.0 (found_among (λ (g : Firing). same_task g.task t) (firings h) firing.0 firing.1) in
     let root = root_own h t firing.0 spot.0 firing.1 spot.2 in
     let last : has_task (last_segments h) t ≡ true = subst (λ (ts : List TaskId). has_task ts t ≡ true) (sym (are_over w steady h legal)) done in
     no_both (over_by h t (last_segments h) root last) facts.lasts
@@ -127,17 +119,17 @@ none_waits w sound steady h legal none t waits = by (waiting w h waits.interleav
     enter : (u : TaskId) → has_task (waiting w h waits.interleave) u ≡ true → admit_first w h (waiting w h waits.interleave) ≡ None × (may_admit w h u ≡ true)
     enter u among =
         let facts = WaitingFacts-waiting w h waits.interleave u (OneName-legal w h legal) among in
-        let seated = firing_with_placement w h legal facts.firing (found_among (firings h) u facts.firing facts.is_firing) in
-        let place : placement_of w h u ≡ Some seated.0 = placement_by w h u facts.firing facts.is_firing ∙ seated.1 in
+        let seated = firing_with_placement w h legal facts.firing (found_among (λ (g : Firing). same_task g.task u) (firings h) facts.firing facts.is_firing) in
+        let placed : placement_of w h u ≡ Some seated.0 = placement_by w h u facts.firing facts.is_firing ∙ seated.1 in
         let its = at_interleave facts.firing.spot seated.0 seated.1 facts.is_branch in
         let empty = no_members (admitted w h seated.0.domain) (none_admitted w sound steady h legal none seated.0.domain) in
         let inside : seated.0.domain < length w.arbiters = placement-within w (branch_of facts.firing.spot) seated.0 seated.1 in
         let zero_more : 0 + seated.0.domain ≡ seated.0.domain = omega arith in
         let first_none = subst (λ (i : ℕ). admit_first w h (waiting w h i) ≡ None) zero_more (admit_none w h 0 seated.0.domain w.arbiters none.admit inside) in
-        (subst (λ (i : ℕ). admit_first w h (waiting w h i) ≡ None) its first_none, may u seated.0 place empty)
+        (subst (λ (i : ℕ). admit_first w h (waiting w h i) ≡ None) its first_none, may u seated.0 placed empty)
       where
         may : (u : TaskId) (s : Placement) → placement_of w h u ≡ Some s → admitted w h s.domain ≡ [] → may_admit w h u ≡ true
-        may u s place empty = rw (place, empty) (either_way (is_concurrent s.branch.group))
+        may u s placed empty = rw (placed, empty) (either_way (is_concurrent s.branch.group))
           where
             either_way : (b : Bool) → (if b then list_all (is_concurrent_task w h) [] else is_none_of []) ≡ true
             either_way true = refl

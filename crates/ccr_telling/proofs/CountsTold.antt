@@ -1,10 +1,11 @@
 -- The numbers of a legal history, with the tables that it left, are its counts.
-use Rattle.std.proofs.Common.{◌≡◌, ◌∙◌, ℕ, ◌-◌, ◌<◌, ◌≤◌, Bool, false, List, [], ◌∷◌, length, filter, map, Option, Some, None, refl, sym, ap, arith}
+use Rattle.std.proofs.Common.{◌≡◌, ◌∙◌, ℕ, ◌-◌, ◌<◌, ◌≤◌, false, List, [], ◌∷◌, length, map, Option, Some, None, refl, sym, ap, arith}
 use Rattle.std.specs.Prelude.{◌==◌, option_map, slice_index}
 use Rattle.std.specs.Option.{option_map_or}
 use Rattle.std.proofs.lemmas.List.{length-map}
 use Rattle.ccr_base.specs.declared.names.TaskId.{TaskId}
 use Rattle.ccr_base.specs.declared.names.Spot.{Spot}
+use Rattle.ccr_base.proofs.Filters.{filter_same}
 use Rattle.ccr_wiring.specs.declared.parts.Parts.{Parts}
 use Rattle.ccr_wiring.specs.Wirings.{spots}
 use Rattle.ccr_wiring.specs.Valid.{IsValid}
@@ -74,10 +75,6 @@ on_queue w h b legal tasks q t = by (firing_named h t) refl
         let facts = CardFacts-fired w h t b legal tasks (f, is) in
         ap (λ (o : Option Card). option_map_or (λ (card : Card). card.queue == q) o false) facts.is_card ∙ sym (for_queue w h t b facts q)
 
-pub same_filter : (p q : TaskId → Bool) → ((t : TaskId) → p t ≡ q t) → (ts : List TaskId) → filter p ts ≡ filter q ts
-same_filter p q same [] = refl
-same_filter p q same (t ∷ ts) = rw (same t, same_filter p q same ts) refl
-
 -- how often spots fired
 fired_told : (w : Parts) → IsValid w → (h : List Event) (b : Books) (t : Tallies) → AreTallies (length w.ports) all_indices (length w.queues) b h t → map (λ (spot : Spot). option_map_or (number t.fired) (index_of spot) 0) (spots w) ≡ map (λ spot. length (fired_at h spot)) (spots w)
 fired_told w valid h b t so = spots_same w valid (λ (spot : Spot). option_map_or (number t.fired) (index_of spot) 0) (λ spot. length (fired_at h spot)) (λ spot index at low. ap (λ o. option_map_or (number t.fired) o 0) at ∙ so.fired spot index at low)
@@ -98,7 +95,7 @@ counted_told w valid h legal b keeps t so counts posted_is held_len held_is fire
   posted = λ k low. ap (λ (ns : List ℕ). slice_index ns k) posted_is ∙ (number_read t.posted k ∙ so.posted k low);
   held = λ k low. held_is k low ∙ ap length (keeps.ports.ports k low);
   fired = fired_is ∙ fired_told w valid h b t so;
-  put = λ k low. ap (λ (ns : List ℕ). slice_index ns k) put_is ∙ (number_read t.put k ∙ (so.put k low ∙ ap length (same_filter (is_on b k) (is_for_queue w h k) (on_queue w h b legal keeps.tasks k) (put h))));
-  dropped = λ k low. ap (λ (ns : List ℕ). slice_index ns k) dropped_is ∙ (number_read t.dropped k ∙ (so.dropped k low ∙ ap length (same_filter (is_on b k) (is_for_queue w h k) (on_queue w h b legal keeps.tasks k) (dropped h))));
+  put = λ k low. ap (λ (ns : List ℕ). slice_index ns k) put_is ∙ (number_read t.put k ∙ (so.put k low ∙ ap length (filter_same (is_on b k) (is_for_queue w h k) (put h) (on_queue w h b legal keeps.tasks k))));
+  dropped = λ k low. ap (λ (ns : List ℕ). slice_index ns k) dropped_is ∙ (number_read t.dropped k ∙ (so.dropped k low ∙ ap length (filter_same (is_on b k) (is_for_queue w h k) (dropped h) (on_queue w h b legal keeps.tasks k))));
   totals = totals_is ∙ totals_told w valid h legal b t so;
 }

@@ -3,6 +3,7 @@ use Rattle.std.proofs.Common.{◌≡◌, ◌∙◌, ℕ, ◌+◌, ◌≤◌, tru
 use Rattle.std.specs.List.{slice_get}
 use Rattle.ccr_base.specs.declared.names.TaskId.{TaskId}
 use Rattle.ccr_base.specs.Names.{has_task}
+use Rattle.ccr_base.proofs.Filters.{filter_same}
 use Rattle.ccr_wiring.specs.declared.parts.Parts.{Parts}
 use Rattle.ccr_wiring.specs.Valid.{IsValid}
 use Rattle.ccr_model.specs.declared.history.Event.{Event}
@@ -11,14 +12,14 @@ use Rattle.ccr_model.specs.Legal.{IsLegal}
 use Rattle.ccr_model.proofs.FiredTasks.{IsFired, placement_stays}
 use Rattle.ccr_model.specs.Tasks.{is_for_queue}
 use Rattle.ccr_model.proofs.LegalParts.{Parted, Parted-legal}
-use Rattle.ccr_model.proofs.TaskPlaces.{ArePlaced, ArePlaced-legal, put_fired}
+use Rattle.ccr_model.proofs.WhoWasPut.{ArePlaced, ArePlaced-legal, put_fired}
 use Rattle.ccr_model.proofs.TasksLeft.{filter_on}
 use Rattle.ccr_ledger.specs.Books.{Books}
 use Rattle.ccr_ledger.specs.Kept.{Keeps, KeepsTasks}
-use Rattle.ccr_telling.specs.Tallies.{AreFew, AreTallies, HasRoom, IsCounting, Tallies, after_event, all_indices, is_on}
+use Rattle.ccr_telling.specs.Tallies.{AreFew, AreTallies, EventFits, IsCounting, Tallies, after_event, all_indices, is_on}
 use Rattle.ccr_telling.proofs.Counting.{tallies-event}
-use Rattle.ccr_telling.proofs.NumbersGrowByOne.{few-event, room_for}
-use Rattle.ccr_telling.proofs.CountsTold.{few_cuts, few_taken, on_queue, same_filter}
+use Rattle.ccr_telling.proofs.NumbersGrowByOne.{few-event, event_fits}
+use Rattle.ccr_telling.proofs.CountsTold.{few_cuts, few_taken, on_queue}
 
 -- other tables that tell the same queue of each task that was put or dropped
 tallies_by : (ports indices queues : ℕ) (a b : Books) (h : List Event) (t : Tallies) → ((q : ℕ) → filter (is_on a q) (put h) ≡ filter (is_on b q) (put h)) → ((q : ℕ) → filter (is_on a q) (dropped h) ≡ filter (is_on b q) (dropped h)) → AreTallies ports indices queues a h t → AreTallies ports indices queues b h t
@@ -45,7 +46,7 @@ tallies_by ports indices queues a b h t puts drops so = record {
 -- numbers by some tables of the history
 pub counting_of : (w : Parts) (h : List Event) (b : Books) (t : Tallies) → IsLegal w h → Keeps w h b → AreTallies (length w.ports) all_indices (length w.queues) b h t → AreFew (length h) t → IsCounting w h t
 counting_of w h b t legal keeps so few = record {
-  counted = λ other others. tallies_by (length w.ports) all_indices (length w.queues) b other h t (λ q. same_filter (is_on b q) (is_on other q) (same other others q) (put h)) (λ q. same_filter (is_on b q) (is_on other q) (same other others q) (dropped h)) so;
+  counted = λ other others. tallies_by (length w.ports) all_indices (length w.queues) b other h t (λ q. filter_same (is_on b q) (is_on other q) (put h) (same other others q)) (λ q. filter_same (is_on b q) (is_on other q) (dropped h) (same other others q)) so;
   few = few;
 }
   where
@@ -89,10 +90,10 @@ at_end : (h : List Event) (e : Event) → slice_get (h ++ e ∷ []) (length h) �
 at_end [] e = refl
 at_end (x ∷ h) e = at_end h e
 
--- the event has room in the numbers of a short history
-pub counting_room : (w : Parts) (h : List Event) (e : Event) (b : Books) (t : Tallies) → IsValid w → Keeps w h b → IsLegal w (h ++ e ∷ []) → length (h ++ e ∷ []) ≤ 120000 → IsCounting w h t → HasRoom e t
-counting_room w h e b t valid keeps legal short counting =
+-- the event fits the numbers of a short history
+pub counting_fits : (w : Parts) (h : List Event) (e : Event) (b : Books) (t : Tallies) → IsValid w → Keeps w h b → IsLegal w (h ++ e ∷ []) → length (h ++ e ∷ []) ≤ 120000 → IsCounting w h t → EventFits e t
+counting_fits w h e b t valid keeps legal short counting =
     let all = h ++ e ∷ [] in
     let longer : length all ≡ length h + 1 = length-append h (e ∷ []) in
-    room_for (length w.ports) all_indices (length w.queues) b all (length h) e t (at_end h e) (omega (arith, longer, short)) (omega (arith, short)) (few_taken w valid all legal) (few_cuts w all legal)
+    event_fits (length w.ports) all_indices (length w.queues) b all (length h) e t (at_end h e) (omega (arith, longer, short)) (omega (arith, short)) (few_taken w valid all legal) (few_cuts w all legal)
     (subst (λ g. AreTallies (length w.ports) all_indices (length w.queues) b g t) (sym (take_before h e)) (counting.counted b keeps)) counting.few

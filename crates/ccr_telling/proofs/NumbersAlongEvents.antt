@@ -7,9 +7,9 @@ use Rattle.ccr_model.specs.declared.history.Event.{Event}
 use Rattle.ccr_model.specs.Posts.{taken}
 use Rattle.ccr_model.specs.Firings.{cut}
 use Rattle.ccr_ledger.specs.Books.{Books}
-use Rattle.ccr_telling.specs.Tallies.{AreFew, AreTallies, HasRoom, Tallies, after_event, no_tallies}
+use Rattle.ccr_telling.specs.Tallies.{AreFew, AreTallies, EventFits, Tallies, after_event, no_tallies}
 use Rattle.ccr_telling.proofs.Counting.{tallies-event, tallies-none}
-use Rattle.ccr_telling.proofs.NumbersGrowByOne.{few-event, few-none, room_for}
+use Rattle.ccr_telling.proofs.NumbersGrowByOne.{few-event, few-none, event_fits}
 
 -- the numbers of the first events
 pub record IsAlong (ports indices queues : ℕ) (b : Books) (es : List Event) (i : ℕ) (t : Tallies) : Type 0 where
@@ -34,5 +34,5 @@ along_next ports indices queues b es i e old new low at is along =
       few = few-event i b e old along.few;
     })
 
-pub along_room : (ports indices queues : ℕ) (b : Books) (es : List Event) (i : ℕ) (e : Event) (t : Tallies) → i < length es → e ≡ get_or es i e → i < 2 ^ 64 - 1 → length es < 2 ^ 64 → length (taken es) ≤ length es → length (cut es) ≤ length es → IsAlong ports indices queues b es i t → HasRoom e t
-along_room ports indices queues b es i e t low at fits short takes cuts along = room_for ports indices queues b es i e t (slice_get_read es (length es) i e refl low at) fits short takes cuts along.counted along.few
+pub along_fits : (ports indices queues : ℕ) (b : Books) (es : List Event) (i : ℕ) (e : Event) (t : Tallies) → i < length es → e ≡ get_or es i e → i < 2 ^ 64 - 1 → length es < 2 ^ 64 → length (taken es) ≤ length es → length (cut es) ≤ length es → IsAlong ports indices queues b es i t → EventFits e t
+along_fits ports indices queues b es i e t low at fits short takes cuts along = event_fits ports indices queues b es i e t (slice_get_read es (length es) i e refl low at) fits short takes cuts along.counted along.few

@@ -11,7 +11,7 @@ use Rattle.ccr_model.specs.Posts.{taken}
 use Rattle.ccr_model.specs.Firings.{cut}
 use Rattle.ccr_ledger.specs.Books.{Books, number}
 use Rattle.ccr_ledger.proofs.Empty.{number-none}
-use Rattle.ccr_telling.specs.Tallies.{AreFew, AreTallies, HasRoom, Tallies, after_event, no_tallies, index_of}
+use Rattle.ccr_telling.specs.Tallies.{AreFew, AreTallies, EventFits, Tallies, after_event, no_tallies, index_of}
 use Rattle.ccr_telling.proofs.Numbers.{more-few, more_at-few, more_for-few, more_if_some-few}
 
 pub few-none : (ports indices queues : ℕ) → AreFew 0 (no_tallies ports indices queues)
@@ -81,9 +81,9 @@ cut_within [] i e at = absurd (cc)
 cut_within (x ∷ es) zero e at = let one : x ≡ e = cc in grind (arith, common_steps, one)
 cut_within (x ∷ es) (suc i) e at = let rest = cut_within es i e at in grind (arith, common_steps, rest)
 
--- the next event of a list has room
-pub room_for : (ports indices queues : ℕ) (b : Books) (es : List Event) (i : ℕ) (e : Event) (t : Tallies) → slice_get es i ≡ Some e → i < 2 ^ 64 - 1 → length es < 2 ^ 64 → length (taken es) ≤ length es → length (cut es) ≤ length es → AreTallies ports indices queues b (take i es) t → AreFew i t → HasRoom e t
-room_for ports indices queues b es i e t at low short takes cuts so few = record {
+-- the next event of a list fits the numbers
+pub event_fits : (ports indices queues : ℕ) (b : Books) (es : List Event) (i : ℕ) (e : Event) (t : Tallies) → slice_get es i ≡ Some e → i < 2 ^ 64 - 1 → length es < 2 ^ 64 → length (taken es) ≤ length es → length (cut es) ≤ length es → AreTallies ports indices queues b (take i es) t → AreFew i t → EventFits e t
+event_fits ports indices queues b es i e t at low short takes cuts so few = record {
   posted = λ k. omega (arith, few.posted k, low);
   fired = λ k. omega (arith, few.fired k, low);
   put = λ k. omega (arith, few.put k, low);

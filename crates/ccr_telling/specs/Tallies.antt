@@ -137,7 +137,7 @@ WhereFireFits messages cuts tallies law =
     law
 
 -- one more event fits all numbers
-pub record HasRoom (event : Event) (tallies : Tallies) : Type 0 where
+pub record EventFits (event : Event) (tallies : Tallies) : Type 0 where
   pub posted : FitOneMore tallies.posted
   pub fired : FitOneMore tallies.fired
   pub put : FitOneMore tallies.put

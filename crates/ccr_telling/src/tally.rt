@@ -5,17 +5,16 @@ ghost use Rattle.std.specs.Option.{option_map_or};
 ghost use Rattle.ccr_wiring.specs.declared.parts.Parts.{Parts};
 ghost use Rattle.ccr_model.specs.declared.history.Event.{Event as SomeEvent};
 ghost use Rattle.ccr_ledger.specs.Books.{more, number};
-ghost use Rattle.ccr_telling.specs.Tallies.{CountsNext, FitOneMore, HasRoom, WhereFireFits, after_end, after_event, after_fire, after_post, after_put, more_at, more_for, no_tallies, index_of};
+ghost use Rattle.ccr_telling.specs.Tallies.{CountsNext, FitOneMore, EventFits, WhereFireFits, after_end, after_event, after_fire, after_post, after_put, more_at, more_for, no_tallies, index_of};
 
 use ccr_base::{MsgId, OutOfMemory, PortNo, Spot, TaskId};
 use ccr_laws::valid_histories_are_short;
 use ccr_ledger::Ledger;
 use ccr_model::{EndHow, Event};
+use ccr_wiring::MAX_ACTIONS;
 use std::alloc::Global;
 use std::marker::Model;
 
-/// The sites of a branch, at most: one for each action of its handler.
-const MAX_SITES: u32 = 16;
 /// The indices of a branch: its own, and one for each site that it can have.
 const INDICES_EACH: usize = 17;
 /// As many as the branches of a wiring have, of which there are at most 256.
@@ -72,7 +71,7 @@ fn index_of(spot: Spot) -> Option<usize>
     match spot {
         Spot::Branch(branch) => Some(branch as usize * INDICES_EACH),
         Spot::Site(branch, site) => {
-            if site < MAX_SITES {
+            if (site as usize) < MAX_ACTIONS {
                 Some(branch as usize * INDICES_EACH + (site as usize + 1))
             } else {
                 None
@@ -202,7 +201,7 @@ impl Tally {
 
     /// Counts the event. The queues of its tasks are told by the tables.
     pub(crate) fn enter(&mut self, ledger: &Ledger, event: &Event)
-        ensures { HasRoom event.now self.old → self.new ≡ after_event ledger.now event.now self.old }
+        ensures { EventFits event.now self.old → self.new ≡ after_event ledger.now event.now self.old }
     {
         match event {
             Event::Post(message) => self.enter_post(message.port),

@@ -1,50 +1,50 @@
--- A canonical text is cut into its lines and words again.
+-- A canonical text is split into its lines and words again.
 use Rattle.std.proofs.Common.{◌≡◌, ℕ, ◌+◌, Bool, true, false, List, [], ◌∷◌, ◌++◌, refl, ap, ◌∙◌, append_assoc, append-nil, arith}
 use Rattle.std.specs.Prelude.{◌==◌, ◌||◌, not}
 use Rattle.std.specs.List.{list_all}
 use Rattle.std.proofs.lemmas.Bool.Decides.{nat_tests}
 use Rattle.std.proofs.lemmas.List.Concat.{flat_map-cons}
 use Rattle.ccr_text.specs.Words.{is_graphic, is_blank, is_clean, pieces, words_of}
-use Rattle.ccr_text.specs.Lines.{cut, numbered_line, numbered, lines_of}
+use Rattle.ccr_text.specs.Lines.{split_text, numbered_line, numbered, lines_of}
 use Rattle.ccr_text.specs.Spelling.{joined, line_text, text_of, spelled_lines, AreWords, AreLines}
 use Rattle.std.proofs.lemmas.Bool.{and_parts as both}
 
 abbrev not_feed : ℕ → Bool
 not_feed b = not (b == 10)
 
-cut_line : (line rest : List ℕ) → list_all not_feed line ≡ true → cut (line ++ 10 ∷ rest) ≡ line ∷ cut rest
-cut_line [] rest none = refl
-cut_line (b ∷ line) rest none =
+split_line : (line rest : List ℕ) → list_all not_feed line ≡ true → split_text (line ++ 10 ∷ rest) ≡ line ∷ split_text rest
+split_line [] rest none = refl
+split_line (b ∷ line) rest none =
     let parts = both (not_feed b) (list_all not_feed line) none in
     let other : (b == 10) ≡ false = grind (arith, nat_tests, parts.0) in
-    rw (other, cut_line line rest parts.1) refl
+    rw (other, split_line line rest parts.1) refl
 
-mark_is : (b : ℕ) → is_graphic b ≡ true → not_feed b ≡ true
-mark_is b e = grind (arith, nat_tests)
+graphic_not_feed : (b : ℕ) → is_graphic b ≡ true → not_feed b ≡ true
+graphic_not_feed b e = grind (arith, nat_tests)
 
 feeds_word : (word rest : List ℕ) → list_all is_graphic word ≡ true → list_all not_feed rest ≡ true → list_all not_feed (word ++ rest) ≡ true
-feeds_word [] rest marks others = others
-feeds_word (b ∷ word) rest marks others =
-    let parts = both (is_graphic b) (list_all is_graphic word) marks in
-    rw (mark_is b parts.0, feeds_word word rest parts.1 others) refl
+feeds_word [] rest graphic others = others
+feeds_word (b ∷ word) rest graphic others =
+    let parts = both (is_graphic b) (list_all is_graphic word) graphic in
+    rw (graphic_not_feed b parts.0, feeds_word word rest parts.1 others) refl
 
 clean_word : (word rest : List ℕ) → list_all is_graphic word ≡ true → is_clean rest ≡ true → is_clean (word ++ rest) ≡ true
-clean_word [] rest marks others = others
-clean_word (b ∷ word) rest marks others =
-    let parts = both (is_graphic b) (list_all is_graphic word) marks in
+clean_word [] rest graphic others = others
+clean_word (b ∷ word) rest graphic others =
+    let parts = both (is_graphic b) (list_all is_graphic word) graphic in
     let clean : (is_blank b || is_graphic b) ≡ true = grind (arith, nat_tests, parts.0) in
     rw (clean, clean_word word rest parts.1 others) refl
 
 pieces_word : (word rest : List ℕ) → list_all is_graphic word ≡ true → pieces (word ++ 32 ∷ rest) ≡ word ∷ pieces rest
-pieces_word [] rest marks = refl
-pieces_word (b ∷ word) rest marks =
-    let parts = both (is_graphic b) (list_all is_graphic word) marks in
+pieces_word [] rest graphic = refl
+pieces_word (b ∷ word) rest graphic =
+    let parts = both (is_graphic b) (list_all is_graphic word) graphic in
     rw (parts.0, pieces_word word rest parts.1) refl
 
 pieces_last : (word : List ℕ) → list_all is_graphic word ≡ true → pieces word ≡ word ∷ []
-pieces_last [] marks = refl
-pieces_last (b ∷ word) marks =
-    let parts = both (is_graphic b) (list_all is_graphic word) marks in
+pieces_last [] graphic = refl
+pieces_last (b ∷ word) graphic =
+    let parts = both (is_graphic b) (list_all is_graphic word) graphic in
     rw (parts.0, pieces_last word parts.1) refl
 
 pub joined_feeds : (words : List (List ℕ)) → AreWords words → list_all not_feed (joined words) ≡ true
@@ -63,12 +63,12 @@ joined_words (word ∷ []) are = rw (pieces_last word are.1, are.0) refl
 joined_words (word ∷ next ∷ words) are = rw (pieces_word word (joined (next ∷ words)) are.1, are.0) (ap (λ (v : List (List ℕ)). word ∷ v) (joined_words (next ∷ words) are.2))
 
 -- each line is found again, with its words
-pub lines_again : (number : ℕ) (lines : List (List (List ℕ))) → AreLines lines → numbered number (cut (text_of lines)) ≡ spelled_lines number lines
+pub lines_again : (number : ℕ) (lines : List (List (List ℕ))) → AreLines lines → numbered number (split_text (text_of lines)) ≡ spelled_lines number lines
 lines_again number [] are = refl
 lines_again number (words ∷ lines) are =
     let regrouped : text_of (words ∷ lines) ≡ joined words ++ 10 ∷ text_of lines = flat_map-cons line_text words lines ∙ append_assoc (joined words) (10 ∷ []) (text_of lines) in
     let first : numbered_line number (joined words) ≡ record { number = number; words = words; clean = true } = rw (joined_words words are.0, joined_clean words are.0) refl in
-    ap (λ (t : List ℕ). numbered number (cut t)) regrouped ∙ rw (cut_line (joined words) (text_of lines) (joined_feeds words are.0), first, lines_again (number + 1) lines are.1) refl
+    ap (λ (t : List ℕ). numbered number (split_text t)) regrouped ∙ rw (split_line (joined words) (text_of lines) (joined_feeds words are.0), first, lines_again (number + 1) lines are.1) refl
 
 pub text_again : (lines : List (List (List ℕ))) → AreLines lines → lines_of (text_of lines) ≡ spelled_lines 1 lines
 text_again lines are = lines_again 1 lines are

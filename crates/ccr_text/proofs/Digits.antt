@@ -1,14 +1,18 @@
 -- Values of digits.
 use Rattle.std.proofs.Common.{◌≡◌, ℕ, ◌+◌, ◌-◌, ◌*◌, ◌^◌, ◌<◌, ◌≤◌, Bool, true, false, List, [], ◌∷◌, length, Option, Some, None, refl, arith}
-use Rattle.std.specs.Prelude.{◌&&◌, nat_lt, if◌then◌else◌, ◌==◌}
+use Rattle.std.specs.Prelude.{◌&&◌, nat_lt, if◌then◌else◌, ◌==◌, decimal}
 use Rattle.std.specs.List.{list_all}
 use Rattle.std.specs.Char.{is_ascii_digit}
 use Rattle.std.proofs.lemmas.Bool.Decides.{nat_tests}
 use Rattle.ccr_text.specs.Words.{is_graphic, value_after, number_of, with_digit}
 
+-- the digits of each number are read as that number
+abbrev pub AreReadAgain : Type 0
+AreReadAgain = (n : ℕ) → n < 2 ^ 64 → number_of (decimal n) ≡ Some n
+
 -- a digit is a byte of words
-pub digit_mark : (b : ℕ) → is_ascii_digit b ≡ true → is_graphic b ≡ true
-digit_mark b e = grind (arith, nat_tests, e)
+pub digit_graphic : (b : ℕ) → is_ascii_digit b ≡ true → is_graphic b ≡ true
+digit_graphic b e = grind (arith, nat_tests, e)
 
 -- further digits do not make it less
 pub value_after-above : (digits : List ℕ) (n : ℕ) → n ≤ value_after n digits

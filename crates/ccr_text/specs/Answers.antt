@@ -25,7 +25,7 @@ abbrev pub GivesState : {X : Type 0} → X → Result (Unit {0}) Stop → Result
 GivesState new (Ok done) read = read ≡ Ok new
 GivesState new (Err stop) read = Fails stop read
 
--- the same of a place, which leaves the words behind it
+-- the same of a field, which leaves the words behind it
 abbrev pub LeavesBy : {X Y : Type 0} → (X → Y) → Words → Result X Stop → Result (Y × Words) ℕ → Type 0
 LeavesBy view rest (Ok x) read = read ≡ Ok (view x, rest)
 LeavesBy view rest (Err stop) read = Fails stop read

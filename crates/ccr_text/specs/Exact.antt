@@ -13,7 +13,7 @@ where_spelled word n = if bytes_eq word (decimal n) then Some n else None
 abbrev pub exact_number_of : List ℕ → Option ℕ
 exact_number_of word = option_and_then (where_spelled word) (number_of word)
 
--- the bytes, cut at each separator. What stands behind the last separator is a part too
+-- the bytes, split at each separator. What stands behind the last separator is a part too
 abbrev pub parts : ℕ → List ℕ → List (List ℕ)
 parts separator bytes = slice_split (λ b. b == separator) bytes
 

@@ -5,10 +5,10 @@ use Rattle.std.specs.List.{list_any, onto_first}
 use Rattle.ccr_text.specs.declared.lines.Line.{Line}
 use Rattle.ccr_text.specs.Words.{words_of, is_clean}
 
--- the text cut at each LF. What follows the last LF is a line where it isn't empty
-abbrev pub cut : List ℕ → List (List ℕ)
-cut [] = []
-cut (b ∷ bytes) = if b == 10 then [] ∷ cut bytes else onto_first b (cut bytes)
+-- the text split at each LF. What follows the last LF is a line where it isn't empty
+abbrev pub split_text : List ℕ → List (List ℕ)
+split_text [] = []
+split_text (b ∷ bytes) = if b == 10 then [] ∷ split_text bytes else onto_first b (split_text bytes)
 
 -- what stands before the first LF
 abbrev pub first_line : List ℕ → List ℕ
@@ -30,7 +30,7 @@ numbered number (line ∷ lines) = numbered_line number line ∷ numbered (numbe
 
 -- the lines of a text, numbered from 1
 abbrev pub lines_of : List ℕ → List Line
-lines_of text = numbered 1 (cut text)
+lines_of text = numbered 1 (split_text text)
 
 -- whether the first of the words is this one
 abbrev pub is_first_word : List ℕ → List (List ℕ) → Bool
@@ -48,9 +48,9 @@ begin_from word byte number (line ∷ lines) = if begins_with word line then Som
 
 -- these, or the text's length and number of lines
 abbrev pub index_or_end : List ℕ → Option (ℕ × ℕ) → ℕ × ℕ
-index_or_end text None = (length text, length (cut text))
+index_or_end text None = (length text, length (split_text text))
 index_or_end text (Some index) = index
 
 -- the first line that opens with this word: the byte it begins at, and the lines before it
-abbrev pub line_of : List ℕ → List ℕ → ℕ × ℕ
-line_of text word = index_or_end text (begin_from word 0 0 (cut text))
+abbrev pub find_line : List ℕ → List ℕ → ℕ × ℕ
+find_line text word = index_or_end text (begin_from word 0 0 (split_text text))

@@ -2,9 +2,9 @@
 
 ghost use Rattle.std.specs.Prelude.{◌≡◌, ◌≢◌, ◌<◌, ◌==◌, not, [], ◌∷◌, ◌++◌, IfOk, OnOk, length, map, filter};
 ghost use Rattle.ccr_text.specs.Words.{is_clean, words_of};
-ghost use Rattle.ccr_text.specs.Lines.{cut, first_line};
+ghost use Rattle.ccr_text.specs.Lines.{split_text, first_line};
 
-use crate::words::{cut_run, is_blank_byte};
+use crate::words::{is_blank_byte, split_run};
 use ccr_base::OutOfMemory;
 
 /// Adds the word where it has a byte.
@@ -26,14 +26,14 @@ pub fn take_line<'a>(
     requires { text.now ≢ [] }
     ensures words { OnOk result (map (λ word. word.now) words.new.items ≡ words_of (first_line text.now)) }
     ensures clean { IfOk result (λ taken. taken.0 ≡ is_clean (first_line text.now)) }
-    ensures lines { IfOk result (λ taken. cut text.now ≡ first_line text.now ∷ cut taken.1.now) }
+    ensures lines { IfOk result (λ taken. split_text text.now ≡ first_line text.now ∷ split_text taken.1.now) }
     ensures shorter { IfOk result (λ taken. length taken.1.now < length text.now) }
 {
     words.clear();
     let mut clean = true;
     let mut rest = text;
     'runs: loop {
-        let (word, behind) = cut_run(rest);
+        let (word, behind) = split_run(rest);
         push_word(words, word)?;
         let Some((byte, after)) = behind else {
             return Ok((clean, &[]));

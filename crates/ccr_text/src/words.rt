@@ -32,10 +32,10 @@ pub(crate) fn is_clean_line(line: &[u8]) -> bool
         .all(|byte| is_blank_byte(*byte) || is_graphic_byte(*byte))
 }
 
-/// What stands before the first byte that is no mark, and what stands behind that byte.
-pub fn cut_word(line: &[u8]) -> (&[u8], Option<&[u8]>)
+/// What stands before the first byte that is not graphic, and what stands behind that byte.
+pub fn split_word(line: &[u8]) -> (&[u8], Option<&[u8]>)
     ensures whole { IfNone result.1 (pieces line.now ≡ result.0.now ∷ []) }
-    ensures cut { IfSome result.1 (λ after. pieces line.now ≡ result.0.now ∷ pieces after.now) }
+    ensures parts { IfSome result.1 (λ after. pieces line.now ≡ result.0.now ∷ pieces after.now) }
     ensures shorter { IfSome result.1 (λ after. length after.now < length line.now) }
 {
     for (index, byte) in line.iter().enumerate() {
@@ -47,8 +47,8 @@ pub fn cut_word(line: &[u8]) -> (&[u8], Option<&[u8]>)
 }
 
 /// The bytes of words at the beginning, and the first byte that is none with what follows it.
-pub fn cut_run(bytes: &[u8]) -> (&[u8], Option<(u8, &[u8])>)
-    ensures marks { list_all is_graphic result.0.now ≡ true }
+pub fn split_run(bytes: &[u8]) -> (&[u8], Option<(u8, &[u8])>)
+    ensures graphic { list_all is_graphic result.0.now ≡ true }
     ensures whole { IfNone result.1 (bytes.now ≡ result.0.now) }
     ensures parts { IfSome result.1 (λ behind. bytes.now ≡ result.0.now ++ behind.0 ∷ behind.1.now) }
     ensures other { IfSome result.1 (λ behind. is_graphic behind.0 ≡ false) }
@@ -68,7 +68,7 @@ pub fn words_in(alloc: Global, line: &[u8]) -> Result<List<Name>, OutOfMemory>
     let mut words = List::new(alloc);
     let mut rest = Some(line);
     'pieces: while let Some(bytes) = rest {
-        let (word, after) = cut_word(bytes);
+        let (word, after) = split_word(bytes);
         if !word.is_empty() {
             let word = List::from_vec(Vec::from_slice(alloc, word)?);
             words.push(word).map_err(|(refused, _)| refused)?;

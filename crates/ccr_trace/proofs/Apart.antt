@@ -11,38 +11,17 @@ use Rattle.std.proofs.lemmas.Slice.Eq.{bytes_eq-Decides}
 use Rattle.ccr_wiring.specs.declared.parts.ArbiterPart.{ArbiterPart}
 use Rattle.ccr_wiring.specs.declared.parts.BranchPart.{BranchPart}
 use Rattle.ccr_wiring.specs.declared.parts.Parts.{Parts}
-use Rattle.ccr_wiring.specs.Codes.{code_of}
-use Rattle.ccr_wiring.specs.Groups.{is_receive, is_one_named, is_misgrouped, has_misgrouped, has_branchless, has_strange_group}
-use Rattle.ccr_wiring.specs.Names.{queue_names, set_names, cause_names as names_of_causes, handler_names, poster_names, arbiter_names, declared_names, has_name, has_repeated, has_repeated_name, has_malformed_name}
-use Rattle.ccr_wiring.specs.References.{has_dangling}
-use Rattle.ccr_wiring.specs.Repeats.{has_repeat}
-use Rattle.ccr_wiring.specs.Limits.{has_outside}
-use Rattle.ccr_wiring.specs.Spots.{has_crowded_port}
+use Rattle.ccr_wiring.specs.Groups.{is_receive, is_one_named, is_misgrouped, has_strange_group}
+use Rattle.ccr_wiring.specs.Names.{queue_names, set_names, cause_names as names_of_causes, handler_names, poster_names, arbiter_names, declared_names, has_name, has_repeated}
 use Rattle.ccr_text.specs.Words.{is_name_of}
 use Rattle.ccr_wiring.specs.Valid.{IsValid}
-use Rattle.ccr_wiring.specs.Versions.{has_strange_version, has_newer}
 use Rattle.ccr_wiring.specs.Wirings.{Placement, placements_of, placements_from, placements, in_domain}
 use Rattle.ccr_wiring.proofs.RepeatedNames.{apart_left}
+use Rattle.ccr_wiring.proofs.Validity.{no_codes}
 use Rattle.ccr_trace.specs.Words.{branch_names, branch_names_of, cause_names}
 use Rattle.std.proofs.lemmas.Bool.{and_parts as both, or_parts as neither}
 use Rattle.ccr_base.proofs.Booleans.{not_refuted}
-use Rattle.ccr_base.proofs.Options.{none_cond as no_code}
 use Rattle.ccr_base.proofs.Lists.{none_of_both}
-
--- the codes before that of a name that stands twice
-codes_before : (parts : Parts) → IsValid parts → (has_misgrouped parts ≡ false) × (has_repeated_name parts ≡ false)
-unfolding code_of
-codes_before parts valid =
-    let version = no_code (has_strange_version parts) 2 _ valid in
-    let grouped = no_code (has_misgrouped parts) 3 _ version.1 in
-    let older = no_code (has_newer parts) 5 _ grouped.1 in
-    (grouped.0, (no_code (has_repeated_name parts) 6 _ older.1).0)
-
-misgrouped_none : (parts : Parts) → IsValid parts → has_misgrouped parts ≡ false
-misgrouped_none parts valid = (codes_before parts valid).0
-
-repeated_none : (parts : Parts) → IsValid parts → has_repeated_name parts ≡ false
-repeated_none parts valid = (codes_before parts valid).1
 
 none_left : (test : List ℕ → Bool) (xs ys : List (List ℕ)) → list_any test (xs ++ ys) ≡ false → list_any test xs ≡ false
 none_left test xs ys e = (neither (list_any test xs) (list_any test ys) (sym (list_any-append test xs ys) ∙ e)).0
@@ -76,7 +55,7 @@ ports_apart parts valid =
     (apart_left (q ++ parts.ports ++ s) c
     (apart_left (q ++ parts.ports ++ s ++ c) h
     (apart_left (q ++ parts.ports ++ s ++ c ++ h) a
-    (apart_left (q ++ parts.ports ++ s ++ c ++ h ++ a) p (repeated_none parts valid))))))
+    (apart_left (q ++ parts.ports ++ s ++ c ++ h ++ a) p (no_codes parts valid).names)))))
 
 pub causes_apart : (parts : Parts) → IsValid parts → has_repeated (cause_names parts) ≡ false
 causes_apart parts valid =
@@ -89,7 +68,7 @@ causes_apart parts valid =
     apart_right (q ++ parts.ports ++ s) c
     (apart_left (q ++ parts.ports ++ s ++ c) h
     (apart_left (q ++ parts.ports ++ s ++ c ++ h) a
-    (apart_left (q ++ parts.ports ++ s ++ c ++ h ++ a) p (repeated_none parts valid))))
+    (apart_left (q ++ parts.ports ++ s ++ c ++ h ++ a) p (no_codes parts valid).names)))
 
 arbiters_apart : (parts : Parts) → IsValid parts → has_repeated (flat_map arbiter_names parts.arbiters) ≡ false
 arbiters_apart parts valid =
@@ -100,7 +79,7 @@ arbiters_apart parts valid =
     let a = flat_map arbiter_names parts.arbiters in
     let p = poster_names parts.posters in
     apart_right (q ++ parts.ports ++ s ++ c ++ h) a
-    (apart_left (q ++ parts.ports ++ s ++ c ++ h ++ a) p (repeated_none parts valid))
+    (apart_left (q ++ parts.ports ++ s ++ c ++ h ++ a) p (no_codes parts valid).names)
 
 -- behind the same names, others of which each is one of those
 apart_behind : (xs more fewer : List (List ℕ)) → ((name : List ℕ) → has_name more name ≡ false → has_name fewer name ≡ false) → (has_repeated more ≡ false → has_repeated fewer ≡ false)
@@ -153,7 +132,7 @@ apart (arbiter ∷ arbiters) grouped e =
     ap has_repeated (flat_map-cons branch_names_of arbiter arbiters) ∙ apart_right front.0 (branch_names_of arbiter ++ flat_map branch_names_of arbiters) (ap has_repeated (sym (append_assoc front.0 (branch_names_of arbiter) (flat_map branch_names_of arbiters))) ∙ kept)
 
 pub branches_apart : (parts : Parts) → IsValid parts → has_repeated (branch_names parts) ≡ false
-branches_apart parts valid = apart parts.arbiters (misgrouped_none parts valid) (arbiters_apart parts valid)
+branches_apart parts valid = apart parts.arbiters (no_codes parts valid).groups (arbiters_apart parts valid)
 
 counted : (number : ℕ) (arbiters : List ArbiterPart) → length (flat_map branch_names_of arbiters) ≡ length (placements_from number arbiters)
 counted number [] = refl
@@ -168,18 +147,7 @@ pub length-branch_names : (parts : Parts) → length (branch_names parts) ≡ le
 length-branch_names parts = counted 0 parts.arbiters ∙ sym (length-map (placements_from 0 parts.arbiters) (in_domain parts.domains))
 
 formed : (parts : Parts) → IsValid parts → list_any (λ name. not (is_name_of name)) (declared_names parts) ≡ false
-unfolding code_of
-formed parts valid =
-    let version = no_code (has_strange_version parts) 2 _ valid in
-    let grouped = no_code (has_misgrouped parts) 3 _ version.1 in
-    let older = no_code (has_newer parts) 5 _ grouped.1 in
-    let b = no_code (has_repeated_name parts) 6 _ older.1 in
-    let c = no_code (has_dangling parts) 7 _ b.1 in
-    let d = no_code (has_repeat parts) 8 _ c.1 in
-    let e = no_code (has_outside parts) 10 _ d.1 in
-    let f = no_code (has_branchless parts) 11 _ e.1 in
-    let g = no_code (has_crowded_port parts) 12 _ f.1 in
-    (no_code (has_malformed_name parts) 14 _ g.1).0
+formed parts valid = (no_codes parts valid).forms
 
 -- the ports, the causes and the branches have names of the form of names
 pub record AreFormed (parts : Parts) : Type 0 where
@@ -204,5 +172,5 @@ are_formed parts valid =
     record {
       ports = none_right test q parts.ports one;
       causes = none_right test (q ++ parts.ports ++ s) c three;
-      branches = none_passes test parts.arbiters (misgrouped_none parts valid) (none_right test (q ++ parts.ports ++ s ++ c ++ h) a five);
+      branches = none_passes test parts.arbiters (no_codes parts valid).groups (none_right test (q ++ parts.ports ++ s ++ c ++ h) a five);
     }

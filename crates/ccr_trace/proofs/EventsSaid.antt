@@ -146,10 +146,10 @@ known_words parts (Post id port value causes) event e =
     ap (event_words parts) (sym (some_is (events.Post (record { id = id; port = number.0; value = value; causes = numbers.0 })) event numbers.2))
     ∙ rw (name_at-number parts.ports port number.0 number.1, each_named (cause_names parts) causes numbers.0 numbers.1) refl
 known_words parts (Fire task spot messages cuts) event e =
-    let place = bind_some (number_in (branch_names parts) spot.name >>= λ branch. spot_at parts branch spot.site) _ event e in
-    let branch = bind_some (number_in (branch_names parts) spot.name) _ place.0 place.1 in
-    ap (event_words parts) (sym (some_is (events.Fire task place.0 messages cuts) event place.2))
-    ∙ rw (spot_named parts spot.name branch.0 spot.site place.0 branch.1 branch.2) refl
+    let found = bind_some (number_in (branch_names parts) spot.name >>= λ branch. spot_at parts branch spot.site) _ event e in
+    let branch = bind_some (number_in (branch_names parts) spot.name) _ found.0 found.1 in
+    ap (event_words parts) (sym (some_is (events.Fire task found.0 messages cuts) event found.2))
+    ∙ rw (spot_named parts spot.name branch.0 spot.site found.0 branch.1 branch.2) refl
 known_words parts (Admit task) event e = ap (event_words parts) (sym (some_is (events.Admit task) event e))
 known_words parts (Put task dropped) event e = ap (event_words parts) (sym (some_is (events.Put task dropped) event e))
 known_words parts (Start task actor) event e = ap (event_words parts) (sym (some_is (events.Start task actor) event e))

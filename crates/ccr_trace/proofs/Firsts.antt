@@ -10,7 +10,7 @@ use Rattle.ccr_trace.specs.Forms.{field}
 use Rattle.ccr_text.specs.Fields.{Words}
 use Rattle.ccr_trace.proofs.ReadTellsSteps.{field_some}
 use Rattle.ccr_trace.specs.Pieces.{pieces}
-use Rattle.ccr_trace.proofs.Cutting.{pieces_some}
+use Rattle.ccr_trace.proofs.Splitting.{pieces_some}
 use Rattle.ccr_trace.proofs.Each.{behind_found, each_more}
 use Rattle.ccr_trace.proofs.Valued.{length-each, one_too_many, no_number, all_read}
 use Rattle.ccr_base.specs.Values.{value_of_numbers}

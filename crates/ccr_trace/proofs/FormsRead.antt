@@ -18,9 +18,10 @@ use Rattle.ccr_trace.specs.Said.{SpotName, Said, Post, Fire, Admit, Put, Start, 
 use Rattle.ccr_trace.specs.Fields.{task_of}
 use Rattle.ccr_trace.specs.Forms.{cuts, fired, post_said, fire_said, admit_said, dropped_said, put_said, start_said, how_said, end_said, form_said, said_on}
 use Rattle.ccr_text.specs.Fields.{Words}
+use Rattle.ccr_text.proofs.Digits.{AreReadAgain}
 use Rattle.ccr_trace.proofs.ReadTellsSteps.{is_some_of-some}
-use Rattle.ccr_trace.proofs.Parting.{AreMarked, pieces-joined, marked_both, marked_map}
-use Rattle.ccr_trace.proofs.WordsRead.{AreNumbers, value_read, short_read, task_read, message_read, spot_read, number_marked, value_marked, task_marked, message_marked, spot_marked, name_marked, each_read}
+use Rattle.ccr_trace.proofs.Parting.{AreGraphic, pieces-joined, graphic_both, graphic_map}
+use Rattle.ccr_trace.proofs.WordsRead.{value_read, short_read, task_read, message_read, spot_read, number_graphic, value_graphic, task_graphic, message_graphic, spot_graphic, name_graphic, each_read}
 
 names_read : (names : List (List ℕ)) → All IsName names → list_all is_name_of names ≡ true
 names_read [] good = refl
@@ -32,13 +33,13 @@ no_cut : (message : MsgId) → bytes_eq (message_word message) (codes "cut") ≡
 no_cut (ids.Script actor place) = refl
 no_cut (ids.Task task place) = refl
 
-names_marked : (names : List (List ℕ)) → All IsName names → AreMarked names
-names_marked [] good = tt
-names_marked (name ∷ names) good =
+names_graphic : (names : List (List ℕ)) → All IsName names → AreGraphic names
+names_graphic [] good = tt
+names_graphic (name ∷ names) good =
     let parts = recursion_from_All IsName (name ∷ names) good in
-    (name_marked name parts.0, names_marked names (λ k d below. good (suc k) d (omega arith)))
+    (name_graphic name parts.0, names_graphic names (λ k d below. good (suc k) d (omega arith)))
 
-module _ (numbers : AreNumbers) where
+module _ (numbers : AreReadAgain) where
   post_again : (version : ℕ) (id : MsgId) (port : List ℕ) (value : List ℕ) (causes : List (List ℕ)) → IsSaid version (Post id port value causes) → post_said version (message_word id ∷ port ∷ value_word value ∷ causes) ≡ Some (Post id port value causes)
   unfolding post_said
   post_again version id port value causes good =
@@ -95,41 +96,41 @@ module _ (numbers : AreNumbers) where
   unfolding end_said
   end_again version task how good = rw (task_read numbers task good.0, how_again version how good.1) refl
 
-  cut_marked : (tasks : List TaskId) → All IsTask tasks → AreMarked (cut_words tasks)
-  cut_marked [] good = tt
-  cut_marked (task ∷ tasks) good = (refl, marked_map task_word IsTask (task_marked numbers) (task ∷ tasks) good)
+  cut_graphic : (tasks : List TaskId) → All IsTask tasks → AreGraphic (cut_words tasks)
+  cut_graphic [] good = tt
+  cut_graphic (task ∷ tasks) good = (refl, graphic_map task_word IsTask (task_graphic numbers) (task ∷ tasks) good)
 
-  dropped_marked : (dropped : Option TaskId) → IsDropped dropped → AreMarked (dropped_words dropped)
-  dropped_marked None good = tt
-  dropped_marked (Some task) good = (refl, (task_marked numbers task good, tt))
+  dropped_graphic : (dropped : Option TaskId) → IsDropped dropped → AreGraphic (dropped_words dropped)
+  dropped_graphic None good = tt
+  dropped_graphic (Some task) good = (refl, (task_graphic numbers task good, tt))
 
-  end_marked : (version : ℕ) (how : EndHow) → IsEnd version how → AreMarked (end_words how)
-  end_marked version ends.Done good = (refl, tt)
-  end_marked version (ends.Failed value) good = (refl, (value_marked numbers version value good, tt))
-  end_marked version ends.Yield good = (refl, tt)
-  end_marked version ends.Shed good = (refl, tt)
+  end_graphic : (version : ℕ) (how : EndHow) → IsEnd version how → AreGraphic (end_words how)
+  end_graphic version ends.Done good = (refl, tt)
+  end_graphic version (ends.Failed value) good = (refl, (value_graphic numbers version value good, tt))
+  end_graphic version ends.Yield good = (refl, tt)
+  end_graphic version ends.Shed good = (refl, tt)
 
   -- each word of a line has bytes of words alone
-  pub said_marked : (version : ℕ) (said : Said) → IsSaid version said → AreMarked (said_words said)
-  said_marked version (Post id port value causes) good = (refl, (message_marked numbers id good.0, (name_marked port good.1, (value_marked numbers version value good.2, names_marked causes good.3))))
-  said_marked version (Fire task spot messages tasks) good =
-      (refl, (task_marked numbers task good.0, (spot_marked numbers spot good.1 good.2, marked_both (map message_word messages) (cut_words tasks) (marked_map message_word IsMessage (message_marked numbers) messages good.4) (cut_marked tasks good.5))))
-  said_marked version (Admit task) good = (refl, (task_marked numbers task good, tt))
-  said_marked version (Put task dropped) good = (refl, (task_marked numbers task good.0, dropped_marked dropped good.1))
-  said_marked version (Start task actor) good = (refl, (task_marked numbers task good.0, (number_marked numbers actor (omega arith), tt)))
-  said_marked version (End task how) good = (refl, (task_marked numbers task good.0, end_marked version how good.1))
+  pub said_graphic : (version : ℕ) (said : Said) → IsSaid version said → AreGraphic (said_words said)
+  said_graphic version (Post id port value causes) good = (refl, (message_graphic numbers id good.0, (name_graphic port good.1, (value_graphic numbers version value good.2, names_graphic causes good.3))))
+  said_graphic version (Fire task spot messages tasks) good =
+      (refl, (task_graphic numbers task good.0, (spot_graphic numbers spot good.1 good.2, graphic_both (map message_word messages) (cut_words tasks) (graphic_map message_word IsMessage (message_graphic numbers) messages good.4) (cut_graphic tasks good.5))))
+  said_graphic version (Admit task) good = (refl, (task_graphic numbers task good, tt))
+  said_graphic version (Put task dropped) good = (refl, (task_graphic numbers task good.0, dropped_graphic dropped good.1))
+  said_graphic version (Start task actor) good = (refl, (task_graphic numbers task good.0, (number_graphic numbers actor (omega arith), tt)))
+  said_graphic version (End task how) good = (refl, (task_graphic numbers task good.0, end_graphic version how good.1))
 
-  line_again : (version : ℕ) (first : List ℕ) (words : Words) (said : Said) → AreMarked (first ∷ words) → form_said version first words ≡ Some said → said_on version (joined (first ∷ words)) ≡ Some said
-  line_again version first words said marked is = rw (pieces-joined first words marked) is
+  line_again : (version : ℕ) (first : List ℕ) (words : Words) (said : Said) → AreGraphic (first ∷ words) → form_said version first words ≡ Some said → said_on version (joined (first ∷ words)) ≡ Some said
+  line_again version first words said graphic is = rw (pieces-joined first words graphic) is
 
   -- a line that is spelled says the same again
   pub said_again : (version : ℕ) (said : Said) → IsSaid version said → said_on version (spelled said) ≡ Some said
   unfolding form_said
   said_again version (Post id port value causes) good =
-      line_again version (codes "post") (message_word id ∷ port ∷ value_word value ∷ causes) (Post id port value causes) (said_marked version (Post id port value causes) good) (post_again version id port value causes good)
+      line_again version (codes "post") (message_word id ∷ port ∷ value_word value ∷ causes) (Post id port value causes) (said_graphic version (Post id port value causes) good) (post_again version id port value causes good)
   said_again version (Fire task spot messages tasks) good =
-      line_again version (codes "fire") (task_word task ∷ spot_name_word spot ∷ (map message_word messages ++ cut_words tasks)) (Fire task spot messages tasks) (said_marked version (Fire task spot messages tasks) good) (fire_again task spot messages tasks version good)
-  said_again version (Admit task) good = line_again version (codes "admit") (task_word task ∷ []) (Admit task) (said_marked version (Admit task) good) (admit_again task good)
-  said_again version (Put task dropped) good = line_again version (codes "put") (task_word task ∷ dropped_words dropped) (Put task dropped) (said_marked version (Put task dropped) good) (put_again version task dropped good)
-  said_again version (Start task actor) good = line_again version (codes "start") (task_word task ∷ decimal actor ∷ []) (Start task actor) (said_marked version (Start task actor) good) (start_again version task actor good)
-  said_again version (End task how) good = line_again version (codes "end") (task_word task ∷ end_words how) (End task how) (said_marked version (End task how) good) (end_again version task how good)
+      line_again version (codes "fire") (task_word task ∷ spot_name_word spot ∷ (map message_word messages ++ cut_words tasks)) (Fire task spot messages tasks) (said_graphic version (Fire task spot messages tasks) good) (fire_again task spot messages tasks version good)
+  said_again version (Admit task) good = line_again version (codes "admit") (task_word task ∷ []) (Admit task) (said_graphic version (Admit task) good) (admit_again task good)
+  said_again version (Put task dropped) good = line_again version (codes "put") (task_word task ∷ dropped_words dropped) (Put task dropped) (said_graphic version (Put task dropped) good) (put_again version task dropped good)
+  said_again version (Start task actor) good = line_again version (codes "start") (task_word task ∷ decimal actor ∷ []) (Start task actor) (said_graphic version (Start task actor) good) (start_again version task actor good)
+  said_again version (End task how) good = line_again version (codes "end") (task_word task ∷ end_words how) (End task how) (said_graphic version (End task how) good) (end_again version task how good)

@@ -75,10 +75,10 @@ known_is parts (Post id port value causes) event good e =
     subst (λ (v : Event). IsKnown parts v) (some_is (events.Post (record { id = id; port = number.0; value = value; causes = numbers.0 })) event numbers.2)
     (number_within parts.ports port number.0 number.1, each_good (number_in (cause_names parts)) (λ n. n < length parts.causes) (λ w n is. omega (arith, number_within (cause_names parts) w n is, few)) causes numbers.0 numbers.1, good.2.1)
 known_is parts (Fire task spot messages cuts) event good e =
-    let place = bind_some (number_in (branch_names parts) spot.name >>= λ branch. spot_at parts branch spot.site) _ event e in
-    let branch = bind_some (number_in (branch_names parts) spot.name) _ place.0 place.1 in
+    let found = bind_some (number_in (branch_names parts) spot.name >>= λ branch. spot_at parts branch spot.site) _ event e in
+    let branch = bind_some (number_in (branch_names parts) spot.name) _ found.0 found.1 in
     let below : branch.0 < length (placements parts) = omega (arith, number_within (branch_names parts) spot.name branch.0 branch.1, length-branch_names parts) in
-    subst (λ (v : Event). IsKnown parts v) (some_is (events.Fire task place.0 messages cuts) event place.2) (spot_there parts branch.0 spot.site place.0 below branch.2)
+    subst (λ (v : Event). IsKnown parts v) (some_is (events.Fire task found.0 messages cuts) event found.2) (spot_there parts branch.0 spot.site found.0 below branch.2)
 known_is parts (Admit task) event good e = subst (λ (v : Event). IsKnown parts v) (some_is (events.Admit task) event e) tt
 known_is parts (Put task dropped) event good e = subst (λ (v : Event). IsKnown parts v) (some_is (events.Put task dropped) event e) tt
 known_is parts (Start task actor) event good e = subst (λ (v : Event). IsKnown parts v) (some_is (events.Start task actor) event e) tt
@@ -91,8 +91,8 @@ has_messages parts (Post id port value causes) event good e =
     let numbers = bind_some (each (number_in (cause_names parts)) causes) _ event number.2 in
     subst (λ (v : Event). HasMessages v) (some_is (events.Post (record { id = id; port = number.0; value = value; causes = numbers.0 })) event numbers.2) tt
 has_messages parts (Fire task spot messages cuts) event good e =
-    let place = bind_some (spot_known parts spot) _ event e in
-    subst (λ (v : Event). HasMessages v) (some_is (events.Fire task place.0 messages cuts) event place.2) good.3
+    let found = bind_some (spot_known parts spot) _ event e in
+    subst (λ (v : Event). HasMessages v) (some_is (events.Fire task found.0 messages cuts) event found.2) good.3
 has_messages parts (Admit task) event good e = subst (λ (v : Event). HasMessages v) (some_is (events.Admit task) event e) tt
 has_messages parts (Put task dropped) event good e = subst (λ (v : Event). HasMessages v) (some_is (events.Put task dropped) event e) tt
 has_messages parts (Start task actor) event good e = subst (λ (v : Event). HasMessages v) (some_is (events.Start task actor) event e) tt

@@ -13,7 +13,7 @@ use Rattle.ccr_trace.specs.declared.reading.ReadHistory.{ReadHistory}
 use Rattle.ccr_trace.specs.Answers.{HasCode, IsRefusal, IsReading, refused}
 use Rattle.ccr_trace.specs.Reading.{event_on, ended, first_line, head, with_event, reading_from, reading_lines}
 use Rattle.ccr_trace.specs.Pieces.{pieces, bytes_in}
-use Rattle.ccr_trace.proofs.Cutting.{pieces_some}
+use Rattle.ccr_trace.proofs.Splitting.{pieces_some}
 use Rattle.std.specs.List.{onto_first}
 use Rattle.std.proofs.lemmas.List.Sums.{sum_by-cons}
 

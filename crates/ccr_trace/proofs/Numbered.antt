@@ -43,7 +43,7 @@ prefix_seen : (test : List ℕ → Bool) (keys : List (Bor (List ℕ))) → pref
 prefix_seen test [] = refl
 prefix_seen test (key ∷ keys) = ap (λ n. cond (test key.now) (1 + n) 0) (prefix_seen test keys)
 
--- the place among the keys is the number of the name
+-- the index among the keys is the number of the name
 pub number-seen : (keys : List (Bor (List ℕ))) (word : List ℕ) → position (λ key. bytes_eq word key.now) keys ≡ number_in (seen keys) word
 number-seen keys word =
     let front : position_or_len (λ key. bytes_eq word key.now) keys ≡ position_or_len (λ name. bytes_eq word name) (seen keys) = prefix_seen (λ name. not (bytes_eq word name)) keys in

@@ -60,37 +60,37 @@ lacks_tested test separator (b ∷ bytes) none e =
     rw (by_test test separator b none parts.0, lacks_tested test separator bytes none parts.1) refl
 
 -- the bytes of words alone
-abbrev pub marked : List ℕ → Bool
-marked word = list_all is_graphic word
+abbrev pub graphic : List ℕ → Bool
+graphic word = list_all is_graphic word
 
-pub marked-append : (xs ys : List ℕ) → marked xs ≡ true → marked ys ≡ true → marked (xs ++ ys) ≡ true
-marked-append [] ys e f = f
-marked-append (b ∷ xs) ys e f =
-    let parts = both (is_graphic b) (marked xs) e in
-    rw (parts.0, marked-append xs ys parts.1 f) refl
+pub graphic-append : (xs ys : List ℕ) → graphic xs ≡ true → graphic ys ≡ true → graphic (xs ++ ys) ≡ true
+graphic-append [] ys e f = f
+graphic-append (b ∷ xs) ys e f =
+    let parts = both (is_graphic b) (graphic xs) e in
+    rw (parts.0, graphic-append xs ys parts.1 f) refl
 
-abbrev pub AreMarked : List (List ℕ) → Type 0
-AreMarked [] = Unit {0}
-AreMarked (word ∷ words) = (marked word ≡ true) × AreMarked words
+abbrev pub AreGraphic : List (List ℕ) → Type 0
+AreGraphic [] = Unit {0}
+AreGraphic (word ∷ words) = (graphic word ≡ true) × AreGraphic words
 
 -- a line has no LF
-pub joined_lacks : (words : List (List ℕ)) → AreMarked words → lacks 10 (joined words) ≡ true
+pub joined_lacks : (words : List (List ℕ)) → AreGraphic words → lacks 10 (joined words) ≡ true
 joined_lacks [] are = refl
 joined_lacks (word ∷ []) are = lacks_tested is_graphic 10 word refl are.0
 joined_lacks (word ∷ next ∷ words) are = lacks-append 10 word (32 ∷ joined (next ∷ words)) (lacks_tested is_graphic 10 word refl are.0) (joined_lacks (next ∷ words) are.1)
 
 -- the words of a line are found again
-pub pieces-joined : (word : List ℕ) (words : List (List ℕ)) → AreMarked (word ∷ words) → pieces 32 (joined (word ∷ words)) ≡ word ∷ words
+pub pieces-joined : (word : List ℕ) (words : List (List ℕ)) → AreGraphic (word ∷ words) → pieces 32 (joined (word ∷ words)) ≡ word ∷ words
 pieces-joined word [] are = pieces_only 32 word (lacks_tested is_graphic 32 word refl are.0)
 pieces-joined word (next ∷ words) are = pieces_first 32 word (joined (next ∷ words)) (lacks_tested is_graphic 32 word refl are.0) ∙ ap (λ (w : List (List ℕ)). word ∷ w) (pieces-joined next words are.1)
 
-pub marked_both : (words more : List (List ℕ)) → AreMarked words → AreMarked more → AreMarked (words ++ more)
-marked_both [] more e f = f
-marked_both (word ∷ words) more e f = (e.0, marked_both words more e.1 f)
+pub graphic_both : (words more : List (List ℕ)) → AreGraphic words → AreGraphic more → AreGraphic (words ++ more)
+graphic_both [] more e f = f
+graphic_both (word ∷ words) more e f = (e.0, graphic_both words more e.1 f)
 
 -- the words for these
-pub marked_map : {A : Type 0} (spell : A → List ℕ) (Good : A → Type 0) → ((x : A) → Good x → marked (spell x) ≡ true) → (xs : List A) → All Good xs → AreMarked (map spell xs)
-marked_map spell Good apart [] good = tt
-marked_map spell Good apart (x ∷ xs) good =
+pub graphic_map : {A : Type 0} (spell : A → List ℕ) (Good : A → Type 0) → ((x : A) → Good x → graphic (spell x) ≡ true) → (xs : List A) → All Good xs → AreGraphic (map spell xs)
+graphic_map spell Good apart [] good = tt
+graphic_map spell Good apart (x ∷ xs) good =
     let parts = recursion_from_All Good (x ∷ xs) good in
-    (apart x parts.0, marked_map spell Good apart xs (λ k d below. good (suc k) d (omega arith)))
+    (apart x parts.0, graphic_map spell Good apart xs (λ k d below. good (suc k) d (omega arith)))

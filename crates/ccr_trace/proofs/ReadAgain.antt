@@ -13,17 +13,17 @@ use Rattle.ccr_wiring.specs.Valid.{IsValid}
 use Rattle.ccr_model.specs.declared.history.Event.{Event}
 use Rattle.ccr_model.specs.declared.history.Event.TheVariants as events
 use Rattle.ccr_text.specs.Spelling.{joined, line_text, text_of}
+use Rattle.ccr_text.proofs.Digits.{AreReadAgain}
 use Rattle.ccr_trace.specs.declared.reading.ReadHistory.{ReadHistory}
 use Rattle.ccr_trace.specs.Pieces.{pieces}
 use Rattle.ccr_trace.specs.HistoryText.{first_words, event_words, history_text}
 use Rattle.ccr_trace.specs.Forms.{said_on}
 use Rattle.ccr_trace.specs.Known.{IsKnown, HasMessages, IsShort, AreKnown, HaveMessages, AreShort}
 use Rattle.ccr_trace.specs.Reading.{event_on, first_line, head, with_event, reading_from, reading_lines, reading}
-use Rattle.ccr_trace.proofs.Cutting.{pieces_some}
-use Rattle.ccr_trace.proofs.Parting.{AreMarked, lacks, pieces_first, joined_lacks}
-use Rattle.ccr_trace.proofs.WordsRead.{AreNumbers}
+use Rattle.ccr_trace.proofs.Splitting.{pieces_some}
+use Rattle.ccr_trace.proofs.Parting.{AreGraphic, lacks, pieces_first, joined_lacks}
 use Rattle.ccr_trace.proofs.FormsSaid.{line_told}
-use Rattle.ccr_trace.proofs.FormsRead.{said_again, said_marked}
+use Rattle.ccr_trace.proofs.FormsRead.{said_again, said_graphic}
 use Rattle.ccr_trace.proofs.EventsSaid.{said_of, words_of_said, said_good, known_again, known_words}
 use Rattle.ccr_trace.proofs.KnownEvents.{event_said}
 use Rattle.ccr_trace.proofs.LineSteps.{reading_next, reading_done, lines_next, first_bytes}
@@ -79,9 +79,9 @@ count_lines parts history =
     ap length (flat_map-cons line_text (first_words parts) (map (event_words parts) history))
     ∙ omega (arith, length-append (first_line parts ++ 10 ∷ []) (events_text parts history), length-append (first_line parts) (10 ∷ []), first_bytes parts)
 
-module _ (numbers : AreNumbers) (parts : Parts) (valid : IsValid parts) where
-  event_marked : (event : Event) → IsKnown parts event → HasMessages event → IsShort event → AreMarked (event_words parts event)
-  event_marked event there some short = rw (← words_of_said parts event) (said_marked numbers parts.version (said_of parts event) (said_good parts event valid there some short))
+module _ (numbers : AreReadAgain) (parts : Parts) (valid : IsValid parts) where
+  event_graphic : (event : Event) → IsKnown parts event → HasMessages event → IsShort event → AreGraphic (event_words parts event)
+  event_graphic event there some short = rw (← words_of_said parts event) (said_graphic numbers parts.version (said_of parts event) (said_good parts event valid there some short))
 
   event_again : (event : Event) → IsKnown parts event → HasMessages event → IsShort event → event_on parts (joined (event_words parts event)) ≡ Ok event
   event_again event there some short =
@@ -101,7 +101,7 @@ module _ (numbers : AreNumbers) (parts : Parts) (valid : IsValid parts) where
       let short_here = (recursion_from_All IsShort (event ∷ history) short).0 in
       let line = joined (event_words parts event) in
       let rest = events_text parts history ++ report_before more in
-      let lines : pieces 10 (events_text parts (event ∷ history) ++ report_before more) ≡ line ∷ pieces 10 rest = ap (pieces 10) (more_events parts event history (report_before more)) ∙ pieces_first 10 line rest (joined_lacks (event_words parts event) (event_marked event known_here some_here short_here)) in
+      let lines : pieces 10 (events_text parts (event ∷ history) ++ report_before more) ≡ line ∷ pieces 10 rest = ap (pieces 10) (more_events parts event history (report_before more)) ∙ pieces_first 10 line rest (joined_lacks (event_words parts event) (event_graphic event known_here some_here short_here)) in
       let later = again_from more history (with_event read line event) (λ k d below. there (suc k) d (omega arith)) (λ k d below. some (suc k) d (omega arith)) (λ k d below. short (suc k) d (omega arith)) in
       ap (reading_from parts read) lines
       ∙ (reading_next parts read line (pieces 10 rest) event (pieces_some 10 rest) (not_report parts event) (event_again event known_here some_here short_here)

@@ -1,4 +1,4 @@
--- What a place or form that was read tells of its steps.
+-- What a field or form that was read tells of its steps.
 use Rattle.std.proofs.Common.{◌≡◌, ℕ, ◌<◌, ◌≤◌, Bool, true, false, cond, List, [], ◌∷◌, length, map, Option, Some, None, refl, sym, ap, ◌∙◌, ◌^◌, arith}
 use Rattle.std.specs.Prelude.{nat_lt, nat_le, decimal}
 use Rattle.std.specs.Str.{bytes_eq}
@@ -7,7 +7,7 @@ use Rattle.std.proofs.lemmas.List.{length-map}
 use Rattle.ccr_base.proofs.Texts.{same_word}
 use Rattle.ccr_trace.specs.Fields.{◌>>=◌, where_spelled, where_short, where_few}
 use Rattle.ccr_trace.specs.Pieces.{pieces}
-use Rattle.ccr_trace.proofs.Cutting.{pieces_some}
+use Rattle.ccr_trace.proofs.Splitting.{pieces_some}
 use Rattle.ccr_trace.specs.Forms.{word, no_more, only, field, is_some_of}
 use Rattle.ccr_text.specs.Fields.{Words}
 
@@ -34,7 +34,7 @@ pub no_more_some : (words : Words) (u : Unit {0}) → no_more words ≡ Some u �
 no_more_some [] u e = refl
 no_more_some (w ∷ words) u e = absurd cc
 
--- the word of a place
+-- the word of a field
 pub field_some : {A : Type 0} (read : List ℕ → Option A) (words : Words) (x : A × Words) → field read words ≡ Some x → (w : List ℕ) × (words ≡ w ∷ x.1) × (read w ≡ Some x.0)
 field_some read [] x e = absurd cc
 field_some read (w ∷ words) x e =

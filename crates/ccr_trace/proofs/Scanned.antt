@@ -10,7 +10,7 @@ use Rattle.ccr_trace.specs.Pieces.{pieces}
 use Rattle.ccr_trace.specs.Fields.{where_spelled, where_short, exact_number, short_number, task_of, message_of}
 use Rattle.ccr_trace.specs.Forms.{field}
 use Rattle.ccr_text.specs.Fields.{Words}
-use Rattle.ccr_trace.proofs.Cutting.{pieces_some}
+use Rattle.ccr_trace.proofs.Splitting.{pieces_some}
 use Rattle.ccr_trace.proofs.Parting.{lacks, other, lacks-append, lacks_tested, pieces_first, pieces_only}
 use Rattle.ccr_trace.proofs.ReadTellsSteps.{bind_some, field_some}
 use Rattle.std.proofs.lemmas.Bool.{and_parts as both}

@@ -72,7 +72,7 @@ value_single (Arg k) values none single = by (slice_get values k) refl
     by : (o : Option (List ℕ)) → slice_get values k ≡ o → IsSingle (unwrap_or o (0 ∷ []))
     by None at = zero_single
     by (Some value) at = single value (Among-at values k value at)
-value_single (Part k place) values none single = absurd cc
+value_single (Part k index) values none single = absurd cc
 value_single Sum values none single = or_zero (map (sum_at values) (range_with_len 0 (longest values))) (sums_single values single)
 value_single Count values none single = one_single (length values)
 

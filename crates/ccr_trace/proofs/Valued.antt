@@ -6,7 +6,7 @@ use Rattle.ccr_base.specs.Values.{value_of_numbers}
 use Rattle.ccr_trace.specs.Pieces.{pieces}
 use Rattle.ccr_trace.specs.Fields.{◌>>=◌, each, exact_number, where_few, values_in}
 use Rattle.ccr_trace.proofs.ReadTellsSteps.{bind_some, some_is}
-use Rattle.ccr_trace.proofs.Cutting.{pieces_some}
+use Rattle.ccr_trace.proofs.Splitting.{pieces_some}
 use Rattle.ccr_trace.proofs.Each.{behind_found, each_fails, each_none}
 
 -- as many values as words

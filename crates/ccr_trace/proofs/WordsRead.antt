@@ -10,18 +10,15 @@ use Rattle.ccr_base.specs.declared.names.MsgId.{MsgId}
 use Rattle.ccr_base.specs.declared.names.MsgId.TheVariants as ids
 use Rattle.ccr_base.proofs.Texts.{same_text}
 use Rattle.ccr_base.proofs.Lists.{all_weaker}
-use Rattle.ccr_text.specs.Words.{is_digits, is_graphic, value_after, number_of, may_be_in_name}
+use Rattle.ccr_text.specs.Words.{is_digits, is_graphic, value_after, may_be_in_name}
 use Rattle.ccr_trace.specs.Words.{task_word, message_word}
 use Rattle.ccr_text.specs.Exact.{value_word}
+use Rattle.ccr_text.proofs.Digits.{AreReadAgain}
 use Rattle.ccr_trace.specs.Pieces.{pieces}
 use Rattle.ccr_trace.specs.Said.{SpotName, spot_name_word, site_word, most_numbers, IsTask, IsMessage, IsName, IsSite, IsValue}
 use Rattle.ccr_trace.specs.Fields.{each, exact_number, short_number, value_of, task_of, message_of, spot_in, spot_of}
-use Rattle.ccr_trace.proofs.Parting.{lacks, AreLacking, pieces_first, pieces_only, pieces_join, lacks_tested, marked, marked-append}
+use Rattle.ccr_trace.proofs.Parting.{lacks, AreLacking, pieces_first, pieces_only, pieces_join, lacks_tested, graphic, graphic-append}
 use Rattle.std.proofs.lemmas.Bool.{and_parts as both}
-
--- the digits of each number are read as that number
-abbrev pub AreNumbers : Type 0
-AreNumbers = (n : ℕ) → n < 2 ^ 64 → number_of (decimal n) ≡ Some n
 
 letters : (name : List ℕ) → IsName name → list_all may_be_in_name name ≡ true
 letters [] good = absurd cc
@@ -35,8 +32,8 @@ letters (b ∷ name) good =
 name_lacks : (name : List ℕ) → IsName name → lacks 64 name ≡ true
 name_lacks name good = lacks_tested may_be_in_name 64 name refl (letters name good)
 
-pub name_marked : (name : List ℕ) → IsName name → marked name ≡ true
-name_marked name good = all_weaker may_be_in_name is_graphic (λ b may. grind (arith, nat_tests, may)) name (letters name good)
+pub name_graphic : (name : List ℕ) → IsName name → graphic name ≡ true
+name_graphic name good = all_weaker may_be_in_name is_graphic (λ b may. grind (arith, nat_tests, may)) name (letters name good)
 
 -- each word that is spelled is read again
 pub each_read : {A : Type 0} (read : List ℕ → Option A) (spell : A → List ℕ) (Good : A → Type 0) → ((x : A) → Good x → read (spell x) ≡ Some x) → (xs : List A) → All Good xs → each read (map spell xs) ≡ Some xs
@@ -46,7 +43,7 @@ each_read read spell Good again (x ∷ xs) good =
     let parts = recursion_from_All Good (x ∷ xs) good in
     rw (again x parts.0, each_read read spell Good again xs (λ k d below. good (suc k) d (omega arith))) refl
 
-module _ (numbers : AreNumbers) where
+module _ (numbers : AreReadAgain) where
   digits_of : (n : ℕ) → n < 2 ^ 64 → list_all is_ascii_digit (decimal n) ≡ true
   digits_of n fits = by (is_digits (decimal n)) (nat_lt (value_after 0 (decimal n)) (2 ^ 64)) refl (numbers n fits)
     where
@@ -100,25 +97,25 @@ module _ (numbers : AreNumbers) where
   unfolding spot_of
   spot_read spot good site = spot_parts spot good site
 
-  pub number_marked : (n : ℕ) → n < 2 ^ 64 → marked (decimal n) ≡ true
-  number_marked n fits = all_weaker is_ascii_digit is_graphic (λ b digit. grind (arith, nat_tests, digit)) (decimal n) (digits_of n fits)
+  pub number_graphic : (n : ℕ) → n < 2 ^ 64 → graphic (decimal n) ≡ true
+  number_graphic n fits = all_weaker is_ascii_digit is_graphic (λ b digit. grind (arith, nat_tests, digit)) (decimal n) (digits_of n fits)
 
-  short_marked : (n : ℕ) → n < 2 ^ 32 → marked (decimal n) ≡ true
-  short_marked n fits = number_marked n (omega arith)
+  short_graphic : (n : ℕ) → n < 2 ^ 32 → graphic (decimal n) ≡ true
+  short_graphic n fits = number_graphic n (omega arith)
 
-  pub task_marked : (task : TaskId) → IsTask task → marked (task_word task) ≡ true
-  task_marked task good = marked-append (decimal task.actor) (46 ∷ decimal task.attempt) (short_marked task.actor good.0) (short_marked task.attempt good.1)
+  pub task_graphic : (task : TaskId) → IsTask task → graphic (task_word task) ≡ true
+  task_graphic task good = graphic-append (decimal task.actor) (46 ∷ decimal task.attempt) (short_graphic task.actor good.0) (short_graphic task.attempt good.1)
 
-  pub message_marked : (message : MsgId) → IsMessage message → marked (message_word message) ≡ true
-  message_marked (ids.Script actor place) good = marked-append (decimal actor) (46 ∷ decimal place) (short_marked actor good.0) (short_marked place good.1)
-  message_marked (ids.Task task place) good = marked-append (task_word task) (46 ∷ decimal place) (task_marked task good.0) (short_marked place good.1)
+  pub message_graphic : (message : MsgId) → IsMessage message → graphic (message_word message) ≡ true
+  message_graphic (ids.Script actor place) good = graphic-append (decimal actor) (46 ∷ decimal place) (short_graphic actor good.0) (short_graphic place good.1)
+  message_graphic (ids.Task task place) good = graphic-append (task_word task) (46 ∷ decimal place) (task_graphic task good.0) (short_graphic place good.1)
 
-  pub spot_marked : (spot : SpotName) → IsName spot.name → IsSite spot.site → marked (spot_name_word spot) ≡ true
-  spot_marked spot good site = marked-append spot.name (site_word spot.site) (name_marked spot.name good) (by spot.site site)
+  pub spot_graphic : (spot : SpotName) → IsName spot.name → IsSite spot.site → graphic (spot_name_word spot) ≡ true
+  spot_graphic spot good site = graphic-append spot.name (site_word spot.site) (name_graphic spot.name good) (by spot.site site)
     where
-      by : (s : Option ℕ) → IsSite s → marked (site_word s) ≡ true
+      by : (s : Option ℕ) → IsSite s → graphic (site_word s) ≡ true
       by None fits = refl
-      by (Some k) fits = short_marked k fits
+      by (Some k) fits = short_graphic k fits
 
   numbers_lack : (value : List ℕ) → All (λ n. n < 2 ^ 64) value → AreLacking 44 (map decimal value)
   numbers_lack [] good = tt
@@ -136,12 +133,12 @@ module _ (numbers : AreNumbers) where
       let few : nat_le (length value) (most_numbers version) ≡ true = grind (arith, nat_tests, good.1) in
       rw (value_parts value good.0.0 good.0.1, each_read exact_number decimal (λ n. n < 2 ^ 64) number_read value good.0.1, few) refl
 
-  value_bytes : (n : ℕ) (value : List ℕ) → All (λ m. m < 2 ^ 64) (n ∷ value) → marked (value_word (n ∷ value)) ≡ true
-  value_bytes n [] good = number_marked n (recursion_from_All (λ m. m < 2 ^ 64) (n ∷ []) good).0
+  value_bytes : (n : ℕ) (value : List ℕ) → All (λ m. m < 2 ^ 64) (n ∷ value) → graphic (value_word (n ∷ value)) ≡ true
+  value_bytes n [] good = number_graphic n (recursion_from_All (λ m. m < 2 ^ 64) (n ∷ []) good).0
   value_bytes n (next ∷ value) good =
-      marked-append (decimal n) (44 ∷ value_word (next ∷ value)) (number_marked n (recursion_from_All (λ m. m < 2 ^ 64) (n ∷ next ∷ value) good).0)
+      graphic-append (decimal n) (44 ∷ value_word (next ∷ value)) (number_graphic n (recursion_from_All (λ m. m < 2 ^ 64) (n ∷ next ∷ value) good).0)
       (value_bytes next value (λ k d below. good (suc k) d (omega arith)))
 
-  pub value_marked : (version : ℕ) (value : List ℕ) → IsValue version value → marked (value_word value) ≡ true
-  value_marked version [] good = refl
-  value_marked version (n ∷ value) good = value_bytes n value good.0.1
+  pub value_graphic : (version : ℕ) (value : List ℕ) → IsValue version value → graphic (value_word value) ≡ true
+  value_graphic version [] good = refl
+  value_graphic version (n ∷ value) good = value_bytes n value good.0.1

@@ -18,7 +18,7 @@ abbrev pub Says : {X : Type 0} → Result X Unread → Option X → Type 0
 Says (Ok x) said = said ≡ Some x
 Says (Err stop) said = SaysNone stop said
 
--- the same of a place, seen by view, which leaves the words behind it
+-- the same of a field, seen by view, which leaves the words behind it
 abbrev pub LeavesBy : {X Y : Type 0} → (X → Y) → Words → Result X Unread → Option (Y × Words) → Type 0
 LeavesBy view rest (Ok x) said = said ≡ Some (view x, rest)
 LeavesBy view rest (Err stop) said = SaysNone stop said

@@ -16,7 +16,7 @@ pub record Reader : Type 0 where
 abbrev pub reading_of : Reader → Result ReadHistory (ℕ × ℕ)
 reading_of reader = reading_from reader.wiring reader.so_far reader.left
 
--- places and lines fit their types, and behind the first line each line is an event
+-- fields and lines fit their types, and behind the first line each line is an event
 pub record IsReader (reader : Reader) : Type 0 where
   pub room : reader.so_far.rest + bytes_in reader.left ≤ 33554443
   pub few : reader.so_far.lines ≤ reader.so_far.rest

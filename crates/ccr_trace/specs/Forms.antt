@@ -26,7 +26,7 @@ abbrev pub no_more : Words → Option (Unit {0})
 no_more [] = Some tt
 no_more (first ∷ words) = None
 
--- the place of one word, and the words behind it
+-- the field of one word, and the words behind it
 abbrev pub field : {A : Type 0} → (List ℕ → Option A) → Words → Option (A × Words)
 field read words = do
   first ← word words

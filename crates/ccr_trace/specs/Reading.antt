@@ -56,7 +56,7 @@ reading_lines parts [] = Err (ended 0 [])
 reading_lines parts (last ∷ []) = Err (ended 0 last)
 reading_lines parts (line ∷ next ∷ lines) = if bytes_eq line (first_line parts) then reading_from parts head (next ∷ lines) else Err (1, 1)
 
--- the history that a text says up to its line `report 1`, the place of that line and how many stand before it;
+-- the history that a text says up to its line `report 1`, where that line begins and how many stand before it;
 -- or the first offending line and its code
 abbrev pub reading : Parts → List ℕ → Result ReadHistory (ℕ × ℕ)
 reading parts text = reading_lines parts (pieces 10 text)

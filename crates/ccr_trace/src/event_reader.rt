@@ -9,7 +9,6 @@ ghost use Rattle.ccr_trace.specs.Answers.{IsReading, IsRefusal, refused};
 ghost use Rattle.ccr_trace.specs.EventReaders.{HasRead, HasReadAll, IsBefore, reading_of};
 ghost use Rattle.ccr_trace.specs.Reading.{ended, head, line_limit, reading, reading_from, reading_lines};
 
-use crate::fields::is_text;
 use crate::first::is_first_line;
 use crate::forms::event_on;
 use crate::known::Known;
@@ -17,6 +16,7 @@ use crate::pieces::Pieces;
 use crate::refused::{HistoryCode, HistoryRefused};
 use crate::unread::Unread;
 use ccr_model::{Event, GhostHistory};
+use ccr_text::is_text;
 use ccr_wiring::{Parts, Wiring};
 use std::alloc::Global;
 use std::marker::Model;

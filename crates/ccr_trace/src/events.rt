@@ -3,13 +3,12 @@
 ghost use Rattle.std.specs.Prelude.{◌≡◌, ◌++◌, ◌∷◌, [], OnOk, map, codes};
 ghost use Rattle.std.specs.List.{All};
 ghost use Rattle.ccr_text.specs.Spelling.{line_text};
-ghost use Rattle.ccr_trace.specs.Words.{task_word, message_word, spot_word, name_at, branch_names};
+ghost use Rattle.ccr_trace.specs.Words.{task_word, message_word, spot_word, name_at, branch_names, cause_names};
 ghost use Rattle.ccr_text.specs.Exact.{value_word};
 ghost use Rattle.ccr_trace.specs.Said.{IsTask, IsMessage, IsDropped, HasNumbers};
 ghost use Rattle.ccr_trace.specs.Known.{IsShortSpot, IsShortEnd, IsShort};
 ghost use Rattle.ccr_trace.specs.HistoryText.{behind, cut_words, dropped_words, end_words, event_words, post_words};
 
-use crate::names::cause_name;
 use crate::plain::{
     fire_line, put_drop_line, put_end_line, put_plain_post, put_start, put_task_line,
 };
@@ -17,7 +16,7 @@ use crate::words::{put_message, put_spot, put_task, put_value, put_word};
 use ccr_base::{CauseNo, List, Msg, MsgId, Name, OutOfMemory, Spot, TaskId, Value};
 use ccr_model::{EndHow, Event};
 use ccr_text::{MAX_NAME_BYTES, put_bytes};
-use ccr_wiring::{CausePart, Parts, name_at};
+use ccr_wiring::{Parts, cause_name, name_at};
 
 /// Adds the event's line.
 pub fn put_event(
@@ -69,16 +68,12 @@ fn put_full_post(out: &mut List<u8>, parts: &Parts, message: &Msg) -> Result<(),
     put_message(out, message.id)?;
     put_word(out, name_at(parts.ports.as_slice(), message.port))?;
     put_value(out, message.value)?;
-    put_causes(out, parts.causes.as_slice(), message.causes.as_slice())?;
+    put_causes(out, parts, message.causes.as_slice())?;
     put_bytes(out, b"\n")
 }
 
-fn put_causes(
-    out: &mut List<u8>,
-    parts: &[CausePart],
-    causes: &[CauseNo],
-) -> Result<(), OutOfMemory>
-    ensures { OnOk result (out.new ≡ out.old ++ behind (map (name_at (map (λ part. part.name) parts.now)) causes.now)) }
+fn put_causes(out: &mut List<u8>, parts: &Parts, causes: &[CauseNo]) -> Result<(), OutOfMemory>
+    ensures { OnOk result (out.new ≡ out.old ++ behind (map (name_at (cause_names parts.now)) causes.now)) }
 {
     for cause in causes {
         put_word(out, cause_name(parts, *cause))?;

@@ -1,7 +1,6 @@
 //! What one word of a line says. Each number, name and spot has one word.
 
 ghost use Rattle.std.specs.Prelude.{◌≡◌, Some, None, IfSome, IfNone};
-ghost use Rattle.std.specs.Str.{bytes_eq};
 ghost use Rattle.std.specs.Option.{option_map};
 ghost use Rattle.ccr_trace.specs.Forms.{field};
 ghost use Rattle.ccr_trace.specs.Fields.{exact_number, short_number, values_in, value_of, task_in, task_of, script_in, answer_in, message_of, spot_with, spot_of};
@@ -9,13 +8,6 @@ ghost use Rattle.ccr_trace.specs.Fields.{exact_number, short_number, values_in, 
 use crate::pieces::Pieces;
 use ccr_base::{MAX_VALUE_NUMBERS, MsgId, TaskId, Value};
 use ccr_text::{is_name, read_exact_number};
-
-/// Whether the word is that text.
-pub fn is_text(word: &[u8], text: &str) -> bool
-    ensures { result ≡ bytes_eq word.now text.now }
-{
-    word == text.as_bytes()
-}
 
 /// A number below 2^64 without leading zeros.
 #[tactic(auto, unfolding(crate::specs::Fields::exact_number))]

@@ -7,11 +7,12 @@ ghost use Rattle.ccr_trace.specs.Reading.{event_of, event_on};
 ghost use Rattle.ccr_trace.specs.Answers.{Says, Leaves, Gives};
 
 use crate::cursor::PieceCursor;
-use crate::fields::{is_text, message_of, task_of};
+use crate::fields::{message_of, task_of};
 use crate::known::Known;
 use crate::unread::Unread;
 use ccr_base::{List, Msg, MsgId, TaskId};
 use ccr_model::{EndHow, Event};
+use ccr_text::is_text;
 use std::alloc::Global;
 
 /// Each word that is left names a task.

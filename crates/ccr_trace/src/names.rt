@@ -1,22 +1,12 @@
 //! The names that lines refer to by number.
 
-ghost use Rattle.std.specs.Prelude.{◌≡◌, IfOk, map};
-ghost use Rattle.ccr_trace.specs.Words.{branch_names, name_at};
+ghost use Rattle.std.specs.Prelude.{◌≡◌, IfOk};
+ghost use Rattle.ccr_trace.specs.Words.{branch_names};
 
-use ccr_base::{CauseNo, List, Name, OutOfMemory};
-use ccr_wiring::{CausePart, Parts, Wiring, branch_names};
+use ccr_base::{List, Name, OutOfMemory};
+use ccr_wiring::{Parts, Wiring, branch_names};
 use std::alloc::Global;
 use std::marker::Model;
-
-/// The name of the cause of this number, or no byte.
-pub fn cause_name(causes: &[CausePart], number: CauseNo) -> &[u8]
-    ensures { result.now ≡ name_at (map (λ part. part.name) causes.now) number }
-{
-    match causes.get(number as usize) {
-        Some(part) => part.name.as_slice(),
-        None => &[],
-    }
-}
 
 /// A wiring's parts, whose names lines refer to. Those of its branches stand in one list.
 #[derive(Drop)]

@@ -12,7 +12,7 @@ use memchr::memchr;
 use std::marker::Model;
 
 /// What stands before the first separator, and what stands behind it.
-fn cut(separator: u8, bytes: &[u8]) -> (&[u8], Option<&[u8]>)
+fn split_piece(separator: u8, bytes: &[u8]) -> (&[u8], Option<&[u8]>)
     ensures last { IfNone result.1 (pieces separator bytes.now ≡ result.0.now ∷ []) }
     ensures parts { IfSome result.1 (λ rest. pieces separator bytes.now ≡ result.0.now ∷ pieces separator rest.now) }
 {
@@ -71,7 +71,7 @@ impl<'a> Pieces<'a> {
         ensures none { IfNone result (self.old ≡ []) }
         ensures left { IfNone result (self.new ≡ []) }
     {
-        let (piece, rest) = cut(self.separator, self.rest?);
+        let (piece, rest) = split_piece(self.separator, self.rest?);
         self.rest = rest;
         Some(piece)
     }

@@ -1,5 +1,5 @@
 //! The words of plain lines, in one scan from a word's first byte to the space behind it. What is found is what the readers of whole words say
-//! (`places.rs`); where nothing is found they decide.
+//! (`fields.rt`); where nothing is found they decide.
 
 ghost use Rattle.std.specs.Prelude.{◌≡◌, [], Some, IfSome};
 ghost use Rattle.std.specs.Option.{option_map_or};

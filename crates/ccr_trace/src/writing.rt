@@ -90,6 +90,7 @@ pub fn write_history(
     ensures again { IfOk result (λ text. (more : Listed ℕ) → AreKnown wiring.now history.now → HaveMessages history.now → IsReadBefore more wiring.now history.now text) }
 {
     what_is_written_is_read();
+    // `parts` says that the wiring is valid.
     let _parts = wiring.parts();
     let names = WiringNames::new(alloc, wiring)?;
     let events = history.events();

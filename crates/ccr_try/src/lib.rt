@@ -8,7 +8,7 @@ mod texts;
 mod wirings;
 mod writing;
 
-pub use lists::{name, only};
+pub use lists::only;
 pub use rows::{Row, RowLine, read_line};
 pub use texts::{first_number, numbers_of, text_of};
 pub use wirings::{one_cause, one_handler, one_post, one_queue, one_receiver};

@@ -3,9 +3,10 @@
 ghost use Rattle.std.specs.Prelude.{◌≡◌, IfOk};
 ghost use Rattle.ccr_try.specs.Samples.{one_queue, one_handler, one_receive, one_cause, one_post, one_receiver};
 
-use crate::{name, only};
+use crate::only;
 use ccr_base::{
     Action, Group, Handler, List, OutOfMemory, Pattern, Policy, PortNo, Pred, Sent, Slot, Value,
+    name_of,
 };
 use ccr_wiring::{
     ArbiterPart, BranchPart, CausePart, HandlerPart, Kind, Parts, PosterPart, QueuePart, ScriptPost,
@@ -17,7 +18,7 @@ pub fn one_queue(alloc: Global, policy: Policy) -> Result<List<QueuePart>, OutOf
     ensures { IfOk result (λ queues. queues ≡ one_queue policy) }
 {
     let queue = QueuePart {
-        name: name(alloc, b"q")?,
+        name: name_of(alloc, b"q")?,
         policy,
     };
     only(alloc, queue)
@@ -28,7 +29,7 @@ pub fn one_handler(alloc: Global, actions: List<Action>) -> Result<List<HandlerP
     ensures { IfOk result (λ handlers. handlers ≡ one_handler actions) }
 {
     let handler = HandlerPart {
-        name: name(alloc, b"h")?,
+        name: name_of(alloc, b"h")?,
         handler: Handler { actions },
     };
     only(alloc, handler)
@@ -45,14 +46,14 @@ fn one_receive(alloc: Global) -> Result<List<ArbiterPart>, OutOfMemory>
         pred: Pred::Any,
     };
     let branch = BranchPart {
-        name: name(alloc, b"x")?,
+        name: name_of(alloc, b"x")?,
         group: Group::Always,
         queue: 0,
         handler: 0,
         pattern: Pattern::Slots(only(alloc, slot)?),
     };
     let receive = ArbiterPart {
-        name: name(alloc, b"x")?,
+        name: name_of(alloc, b"x")?,
         kind: Kind::Receive,
         branches: only(alloc, branch)?,
     };
@@ -64,7 +65,7 @@ pub fn one_cause(alloc: Global, port: PortNo) -> Result<List<CausePart>, OutOfMe
     ensures { IfOk result (λ causes. causes ≡ one_cause port) }
 {
     let cause = CausePart {
-        name: name(alloc, b"k")?,
+        name: name_of(alloc, b"k")?,
         port,
     };
     only(alloc, cause)
@@ -80,7 +81,7 @@ pub fn one_post(alloc: Global) -> Result<List<PosterPart>, OutOfMemory>
         causes: List::new(alloc),
     };
     let poster = PosterPart {
-        name: name(alloc, b"p")?,
+        name: name_of(alloc, b"p")?,
         posts: only(alloc, ScriptPost::of(alloc, sent)?)?,
     };
     only(alloc, poster)
@@ -94,7 +95,7 @@ pub fn one_receiver(alloc: Global) -> Result<Parts, OutOfMemory>
         version: 1,
         budget: 5,
         queues: one_queue(alloc, Policy::Unbounded)?,
-        ports: only(alloc, name(alloc, b"a")?)?,
+        ports: only(alloc, name_of(alloc, b"a")?)?,
         sets: List::new(alloc),
         causes: List::new(alloc),
         handlers: one_handler(alloc, List::new(alloc))?,

@@ -1,6 +1,7 @@
 //! The order of one thread.
 
-ghost use Rattle.std.specs.Prelude.{◌≡◌, ◌+◌, ◌≤◌, IfOk, length, true};
+ghost use Rattle.std.specs.Prelude.{◌≡◌, ◌≤◌, IfOk, true};
+ghost use Rattle.ccr_wiring.specs.Actors.{actor_count};
 ghost use Rattle.ccr_model.specs.Firings.{fired};
 ghost use Rattle.ccr_model.specs.Legal.{IsLegal, IsQuiet, is_complete};
 ghost use Rattle.ccr_model.specs.Order.{most_attempts, next_attempt};
@@ -8,6 +9,7 @@ ghost use Rattle.ccr_runs.specs.EntryRuns.{IsRun};
 ghost use Rattle.ccr_service.specs.Expansion.{expansion};
 
 use crate::schedules::shortened;
+use ccr_actor::actor_count;
 use ccr_base::{ActorNo, List, OutOfMemory};
 use ccr_model::History;
 use ccr_net::{closers_are_new_to_runs, visible};
@@ -16,19 +18,18 @@ use ccr_serial::{Serial, Stepped};
 use ccr_service::{Answer, Service, answers, expand, read_service};
 use ccr_trace::write_history;
 use ccr_try::{first_number, numbers_of, put, put_number, put_word, text_of};
-use ccr_wiring::{MAX_POSTERS, Wiring};
+use ccr_wiretext::MAX_WIRING_TEXT;
+use ccr_wiring::Wiring;
 use std::alloc::Global;
-
-/// The most bytes that a service text has.
-const LONGEST: usize = 1_048_576;
 
 /// What is visible of a run without workers.
 fn shown(alloc: Global, wiring: &Wiring, full: &Full) -> Result<History, OutOfMemory>
     requires run { IsRun wiring.now 0 full.now.entries }
     ensures legal { IfOk result (λ history. IsLegal wiring.now history) }
-    ensures attempts { IfOk result (λ history. next_attempt (length wiring.now.posters + 0) (fired history) ≤ most_attempts) }
+    ensures attempts { IfOk result (λ history. next_attempt (actor_count wiring.now 0) (fired history) ≤ most_attempts) }
 {
     closers_are_new_to_runs();
+    // `parts` says that the wiring is valid.
     let _valid = wiring.parts();
     visible(alloc, wiring, full)
 }
@@ -36,13 +37,9 @@ fn shown(alloc: Global, wiring: &Wiring, full: &Full) -> Result<History, OutOfMe
 /// The history, gone on with until nothing more may happen.
 fn finished(alloc: Global, wiring: &Wiring, first: History) -> Result<History, OutOfMemory>
     requires legal { IsLegal wiring.now first }
-    requires attempts { next_attempt (length wiring.now.posters + 0) (fired first) ≤ most_attempts }
+    requires attempts { next_attempt (actor_count wiring.now 0) (fired first) ≤ most_attempts }
 {
-    let posters = wiring.parts().posters.as_slice().len();
-    if posters > MAX_POSTERS {
-        return Err(OutOfMemory);
-    }
-    match Serial::resume(alloc, wiring, posters as u32, first) {
+    match Serial::resume(alloc, wiring, actor_count(wiring, 0), first) {
         Ok(engine) => engine.finish(),
         Err(_) => Err(OutOfMemory),
     }
@@ -62,7 +59,7 @@ fn shown_short(
     refused: u64,
 ) -> Result<History, OutOfMemory>
     ensures legal { IfOk result (λ history. IsLegal wiring.now history) }
-    ensures attempts { IfOk result (λ history. next_attempt (length wiring.now.posters + 0) (fired history) ≤ most_attempts) }
+    ensures attempts { IfOk result (λ history. next_attempt (actor_count wiring.now 0) (fired history) ≤ most_attempts) }
 {
     match shortened(alloc, wiring, turns, refused) {
         Ok(full) => shown(alloc, wiring, &full),
@@ -122,22 +119,14 @@ fn put_counts(engine: &mut Serial<'_>, out: &mut List<u8>) {
 
 /// How many events the engine has after each step.
 pub fn engine(alloc: Global, wiring: &Wiring, out: &mut List<u8>) {
-    let posters = wiring.parts().posters.as_slice().len();
-    if posters > MAX_POSTERS {
-        return;
-    }
-    if let Ok(mut engine) = Serial::start(alloc, wiring, posters as u32) {
+    if let Ok(mut engine) = Serial::start(alloc, wiring, actor_count(wiring, 0)) {
         put_counts(&mut engine, out);
     }
 }
 
 /// How many events the engine has at the end, which goes on from none.
 pub fn resume(alloc: Global, wiring: &Wiring, out: &mut List<u8>) {
-    let posters = wiring.parts().posters.as_slice().len();
-    if posters > MAX_POSTERS {
-        return;
-    }
-    let resumed = Serial::resume(alloc, wiring, posters as u32 + 1, History::new(alloc));
+    let resumed = Serial::resume(alloc, wiring, actor_count(wiring, 1), History::new(alloc));
     if let Ok(engine) = resumed {
         if let Ok(history) = engine.finish() {
             put_number(out, history.events().len() as u64);
@@ -167,11 +156,7 @@ fn whole(alloc: Global, wiring: &Wiring) -> Result<History, OutOfMemory>
     ensures complete { IfOk result (λ history. is_complete wiring.now history ≡ true) }
     ensures quiet { IfOk result (IsQuiet wiring.now) }
 {
-    let posters = wiring.parts().posters.as_slice().len();
-    if posters > MAX_POSTERS {
-        return Err(OutOfMemory);
-    }
-    Serial::start(alloc, wiring, posters as u32)?.finish()
+    Serial::start(alloc, wiring, actor_count(wiring, 0))?.finish()
 }
 
 /// Adds what became of each request in this history.
@@ -205,7 +190,7 @@ fn put_expanded(alloc: Global, service: &Service, out: &mut List<u8>) {
 
 /// Adds what became of each request of the service that these bytes say.
 fn put_served(alloc: Global, text: &[u8], out: &mut List<u8>) {
-    if text.len() > LONGEST {
+    if text.len() > MAX_WIRING_TEXT {
         return;
     }
     match read_service(alloc, text) {

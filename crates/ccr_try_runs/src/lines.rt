@@ -2,13 +2,11 @@
 
 use ccr_base::List;
 use ccr_text::{
-    Line, is_name, line_of, numbered_line, put_bytes, put_line, read_number, split_lines, words_in,
+    Line, MAX_TEXT, find_line, is_name, numbered_line, put_bytes, put_line, read_number,
+    split_lines, words_in,
 };
 use ccr_try::{Row, first_number, put, put_number, put_truth, put_word, text_of};
 use std::alloc::Global;
-
-/// The most bytes that a text has.
-const LONGEST: usize = 33_554_432;
 
 /// Adds the line's number, whether it is clean, and its words.
 fn put_whole(out: &mut List<u8>, line: &Line) {
@@ -22,7 +20,7 @@ fn put_whole(out: &mut List<u8>, line: &Line) {
 
 /// How many lines the text has.
 fn count(alloc: Global, text: &[u8], out: &mut List<u8>) {
-    if text.len() > LONGEST {
+    if text.len() > MAX_TEXT {
         return;
     }
     if let Ok(lines) = split_lines(alloc, text) {
@@ -32,7 +30,7 @@ fn count(alloc: Global, text: &[u8], out: &mut List<u8>) {
 
 /// The lines of the text.
 fn lines(alloc: Global, text: &[u8], out: &mut List<u8>) {
-    if text.len() > LONGEST {
+    if text.len() > MAX_TEXT {
         return;
     }
     if let Ok(lines) = split_lines(alloc, text) {
@@ -50,12 +48,12 @@ fn number(text: &[u8], out: &mut List<u8>) {
 }
 
 /// Where the word stands, and in which line.
-fn place(text: &[u8], word: &[u8], out: &mut List<u8>) {
-    if text.len() > LONGEST {
+fn put_index(text: &[u8], word: &[u8], out: &mut List<u8>) {
+    if text.len() > MAX_TEXT {
         return;
     }
-    let (place, line) = line_of(text, word);
-    put_number(out, place as u64);
+    let (index, line) = find_line(text, word);
+    put_number(out, index as u64);
     put_number(out, u64::from(line));
 }
 
@@ -89,7 +87,7 @@ fn find(alloc: Global, input: &str, out: &mut List<u8>) {
     let (word, text) = input.split_once(' ').unwrap_or((input, ""));
     let word = if word == "-" { "" } else { word };
     let text = text_of(alloc, text, "");
-    place(text.as_slice(), word.as_bytes(), out);
+    put_index(text.as_slice(), word.as_bytes(), out);
 }
 
 /// What the call answers of the text.

@@ -5,7 +5,6 @@
 mod answers;
 mod asks;
 mod attempts;
-mod choices;
 mod counts;
 mod courses;
 mod engines;
@@ -17,6 +16,7 @@ mod nets;
 mod objects;
 mod replies;
 mod schedules;
+mod selections;
 mod showing;
 mod streams;
 mod tables;
@@ -24,13 +24,10 @@ mod tables;
 use ccr_base::List;
 use ccr_io::{StdSink, StdSource, read_all, write_all};
 use ccr_try::{Row, RowLine, is_due, put, read_line, text_of};
-use ccr_wiretext::read_wiring;
+use ccr_wiretext::{MAX_WIRING_TEXT, read_wiring};
 use ccr_wiring::Wiring;
 use std::alloc::Global;
 use std::io;
-
-/// The most bytes that are read, and that a wiring text has.
-const LONGEST: usize = 1_048_576;
 
 /// What a course, a run or objects answer over the wiring.
 fn tell_over(alloc: Global, wiring: &Wiring, row: &Row<'_>, out: &mut List<u8>) {
@@ -55,7 +52,7 @@ fn tell_over(alloc: Global, wiring: &Wiring, row: &Row<'_>, out: &mut List<u8>) 
 /// What it answers over the wiring of this text.
 fn tell_with(alloc: Global, with: &str, row: &Row<'_>, out: &mut List<u8>) {
     let text = text_of(alloc, with, "");
-    if text.len() <= LONGEST {
+    if text.len() <= MAX_WIRING_TEXT {
         match read_wiring(alloc, text.as_slice()) {
             Ok(wiring) => tell_over(alloc, &wiring, row, out),
             Err(_) => put(out, b"no wiring"),
@@ -74,10 +71,10 @@ fn tell_small(alloc: Global, row: &Row<'_>, out: &mut List<u8>) {
         "sink" => streams::sink(alloc, row.input, out),
         "sure" => streams::sure(alloc, row.input, out),
         "standard" => streams::standard(alloc, out),
-        "choose" => choices::choose_in(alloc, row.input, out),
-        "copy" => choices::copies(alloc, out),
-        "value" => choices::value(row.input, out),
-        "holds" => choices::holds(row.input, out),
+        "choose" => selections::choose_in(alloc, row.input, out),
+        "copy" => selections::copies(alloc, out),
+        "value" => selections::value(row.input, out),
+        "holds" => selections::holds(row.input, out),
         "list" => lists::list(alloc, row.input, out),
         "union" => lists::joined(alloc, row.input, out),
         "causes" => lists::causes(alloc, row.input, out),
@@ -111,10 +108,10 @@ fn answer(alloc: Global, with: &str, row: &Row<'_>, out: &mut List<u8>) {
     }
 }
 
-/// All of standard input.
+/// All of standard input, where it is no longer than a wiring may be.
 fn read_input(rt: &HostRuntime) -> List<u8> {
     let mut source = StdSource::new(rt.stdin());
-    match read_all(rt.alloc(), &mut source, LONGEST) {
+    match read_all(rt.alloc(), &mut source, MAX_WIRING_TEXT) {
         Ok(text) => text,
         Err(_) => List::new(rt.alloc()),
     }

@@ -20,7 +20,7 @@ pub fn pred_of(word: &str, number: u32) -> Pred {
     }
 }
 
-/// The post at this place of poster 0.
+/// The post at this index of poster 0.
 pub fn message(alloc: Global, port: u32, place: u32, value: u32) -> Msg {
     Msg {
         id: MsgId::Script { actor: 0, place },

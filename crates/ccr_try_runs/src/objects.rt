@@ -28,7 +28,7 @@ fn listed<T: Copy + Drop>(alloc: Global, items: &[T]) -> List<T> {
     }
 }
 
-/// An Interleave of these branches, each in the group of its place.
+/// An Interleave of these branches, each in the group of its index.
 fn interleave(alloc: Global, branches: &[u32], groups: &[Group]) -> Option<Object> {
     let branches = listed(alloc, branches);
     let groups = listed(alloc, groups);
@@ -113,8 +113,8 @@ fn ask(
 /// Adds the values of the messages that stand in the port.
 fn put_held(out: &mut List<u8>, port: &PortObject) {
     put_word(out, b"holds");
-    for place in 0..port.len() {
-        if let Some(message) = port.item(place) {
+    for index in 0..port.len() {
+        if let Some(message) = port.item(index) {
             put_number(out, message.value.first());
         }
     }

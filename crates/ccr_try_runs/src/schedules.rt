@@ -1,10 +1,9 @@
 //! Runs by turns.
 
-ghost use Rattle.std.specs.Prelude.{◌≤◌, ◌<◌, All, IfOk, IsTrue};
-ghost use Rattle.ccr_base.specs.Bounds.{most_workers};
-ghost use Rattle.ccr_wiring.specs.Actors.{actor_count};
+ghost use Rattle.std.specs.Prelude.{IfOk};
 ghost use Rattle.ccr_runs.specs.EntryRuns.{IsRun};
 
+use ccr_actor::{actor_count, are_below};
 use ccr_base::{ActorNo, List, MAX_WORKERS, OutOfMemory};
 use ccr_net::run_schedule;
 use ccr_plain::run_short;
@@ -14,21 +13,6 @@ use ccr_try::{first_number, numbers_of, put, put_number, put_numbers, put_word};
 use ccr_wiring::Wiring;
 use std::alloc::Global;
 
-fn are_below(turns: &[ActorNo], count: usize) -> bool
-    ensures { IsTrue result → All (λ turn. turn < count) turns.now }
-{
-    turns.iter().all(|turn| (*turn as usize) < count)
-}
-
-/// Whether the turns are of actors of the wiring.
-fn are_turns(wiring: &Wiring, workers: u32, turns: &[ActorNo]) -> bool
-    requires { workers ≤ most_workers }
-    ensures { IsTrue result → All (λ turn. turn < actor_count wiring.now workers) turns.now }
-{
-    let posters = wiring.parts().posters.as_slice().len();
-    are_below(turns, posters + workers as usize)
-}
-
 /// The run of the turns, with so many workers.
 fn run(
     alloc: Global,
@@ -36,7 +20,7 @@ fn run(
     workers: u32,
     turns: &[ActorNo],
 ) -> Result<Full, OutOfMemory> {
-    if workers > MAX_WORKERS || !are_turns(wiring, workers, turns) {
+    if workers > MAX_WORKERS || !are_below(turns, actor_count(wiring, workers)) {
         return Err(OutOfMemory);
     }
     run_schedule(alloc, wiring, workers, turns)
@@ -51,7 +35,7 @@ pub fn shortened(
 ) -> Result<Full, OutOfMemory>
     ensures { IfOk result (λ full. IsRun wiring.now 0 full.entries) }
 {
-    if !are_turns(wiring, 0, turns) {
+    if !are_below(turns, actor_count(wiring, 0)) {
         return Err(OutOfMemory);
     }
     run_short(alloc, wiring, 0, turns, &[refused])

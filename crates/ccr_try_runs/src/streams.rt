@@ -8,13 +8,11 @@ use ccr_io::{
     Failed, MemorySink, MemorySource, ReadEnd, Sink, Source, StdSink, StdSource, SureSink,
     SureSource, read_all, write_all,
 };
+use ccr_text::MAX_TEXT;
 use ccr_try::{numbers_of, put, put_number, put_truth, put_word};
 use std::alloc::Global;
 use std::io;
 use std::io::{ErrorKind, Read, Write};
-
-/// The most bytes that are read.
-const LONGEST: usize = 33_554_432;
 
 const TEXT: &[u8] = b"tea 95\n";
 
@@ -51,7 +49,7 @@ pub fn source(alloc: Global, input: &str, out: &mut List<u8>) {
     let numbers = numbers_of(alloc, input);
     let numbers = numbers.as_slice();
     let limit = at(numbers, 0) as usize;
-    if limit > LONGEST {
+    if limit > MAX_TEXT {
         return;
     }
     let failing = only(alloc, at(numbers, 2));

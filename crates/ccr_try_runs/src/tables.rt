@@ -6,19 +6,19 @@ use ccr_ledger::{HeldMessages, Rows};
 use ccr_try::{first_number, numbers_of, put_number, put_truth, put_word};
 use std::alloc::Global;
 
-/// A port with messages of these values, named by their places.
+/// A port with messages of these values, named by their indices.
 fn filled(alloc: Global, values: &[u32]) -> HeldMessages {
     let mut port = HeldMessages::new(alloc);
-    let mut place = 0u32;
+    let mut index = 0u32;
     for value in values {
-        let _ = port.post(message(alloc, 2, place, *value));
-        place = place.saturating_add(1);
+        let _ = port.post(message(alloc, 2, index, *value));
+        index = index.saturating_add(1);
     }
     port
 }
 
-/// Adds the places of the messages that have the names.
-fn put_places(out: &mut List<u8>, names: &[MsgId]) {
+/// Adds the indices of the messages that have the names.
+fn put_indices(out: &mut List<u8>, names: &[MsgId]) {
     for name in names {
         if let MsgId::Script { place, .. } = name {
             put_number(out, u64::from(*place));
@@ -28,18 +28,18 @@ fn put_places(out: &mut List<u8>, names: &[MsgId]) {
 
 fn put_first(out: &mut List<u8>, taken: &Option<Msg>) {
     match taken {
-        Some(message) => put_places(out, &[message.id]),
+        Some(message) => put_indices(out, &[message.id]),
         None => put_word(out, b"none"),
     }
 }
 
-/// The names of the messages at these places.
-fn names_of(alloc: Global, places: &[u32]) -> List<MsgId> {
+/// The names of the messages at these indices.
+fn names_of(alloc: Global, indices: &[u32]) -> List<MsgId> {
     let mut names = List::new(alloc);
-    for place in places {
+    for index in indices {
         let name = MsgId::Script {
             actor: 0,
-            place: *place,
+            place: *index,
         };
         let _ = names.add(name);
     }
@@ -50,7 +50,7 @@ fn put_named(out: &mut List<u8>, port: &mut HeldMessages, input: &str) {
     let (pred, rest) = pred_in(input);
     let (most, _) = first_number(rest);
     if let Ok(names) = port.names(pred, most as usize) {
-        put_places(out, &names);
+        put_indices(out, &names);
     }
 }
 
@@ -62,7 +62,7 @@ fn put_has(out: &mut List<u8>, port: &mut HeldMessages, input: &str) {
     }
 }
 
-/// Takes so many of those that satisfy the predicate, and then the oldest, and adds the places of those that are left.
+/// Takes so many of those that satisfy the predicate, and then the oldest, and adds the indices of those that are left.
 fn put_left(alloc: Global, out: &mut List<u8>, port: &mut HeldMessages, input: &str) {
     let (pred, rest) = pred_in(input);
     let (most, _) = first_number(rest);
@@ -70,11 +70,11 @@ fn put_left(alloc: Global, out: &mut List<u8>, port: &mut HeldMessages, input: &
     let _ = port.take_some(pred, most as usize, &mut taken);
     let _ = port.take_oldest(1, &mut taken);
     if let Ok(names) = port.oldest_names(4) {
-        put_places(out, &names);
+        put_indices(out, &names);
     }
 }
 
-/// Adds how many of the messages at these places the port holds.
+/// Adds how many of the messages at these indices the port holds.
 fn put_shared(alloc: Global, out: &mut List<u8>, port: &mut HeldMessages, input: &str) {
     let names = names_of(alloc, numbers_of(alloc, input).as_slice());
     if let Ok(count) = port.shared(names.as_slice()) {
@@ -82,7 +82,7 @@ fn put_shared(alloc: Global, out: &mut List<u8>, port: &mut HeldMessages, input:
     }
 }
 
-/// Takes the first that satisfies the predicate, and adds its place.
+/// Takes the first that satisfies the predicate, and adds its index.
 fn put_taken(out: &mut List<u8>, port: &mut HeldMessages, input: &str) {
     let (pred, _) = pred_in(input);
     if let Ok(taken) = port.take(pred) {
@@ -119,17 +119,17 @@ fn put_item(out: &mut List<u8>, item: Option<u32>) {
 
 /// One step of the rows, or what they answer to it.
 fn step(rows: &mut Rows<u32>, word: &str, numbers: &[u32], out: &mut List<u8>) {
-    let (row, place) = (at(numbers, 0) as usize, at(numbers, 1));
+    let (row, number) = (at(numbers, 0) as usize, at(numbers, 1));
     match word {
         "enter" => {
-            let _ = rows.enter(row, place);
+            let _ = rows.enter(row, number);
         }
         "alone" => {
-            let _ = rows.enter_alone(row, place);
+            let _ = rows.enter_alone(row, number);
         }
         "len" => put_number(out, rows.len(row) as u64),
         "first" => put_item(out, rows.first(row).copied()),
-        "at" => put_item(out, rows.at(row, place as usize).copied()),
+        "at" => put_item(out, rows.at(row, number as usize).copied()),
         "leave" => put_item(out, rows.leave(row)),
         "clear" => rows.clear(row),
         _ => put_word(out, b"no such step"),

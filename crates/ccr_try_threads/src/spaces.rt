@@ -6,7 +6,7 @@ ghost use Rattle.ccr_space.specs.Spaces.{IsPassOf, IsSpace};
 use crate::compare::same;
 use ccr_base::{Gate, OpenGate, Point};
 use ccr_space::{Pass, Space, Step};
-use ccr_wiretext::read_wiring;
+use ccr_wiretext::{MAX_WIRING_TEXT, read_wiring};
 use ccr_wiring::Wiring;
 use std::alloc::Global;
 use std::process::Abort;
@@ -46,7 +46,7 @@ const LOOKS: u64 = 20_000_000_000;
 
 /// The wiring that the text says.
 pub fn wiring_of(rt: &impl Abort, alloc: Global, text: &str) -> Wiring {
-    assert!(rt; text.len() <= 1_048_576);
+    assert!(rt; text.len() <= MAX_WIRING_TEXT);
     read_wiring(alloc, text.as_bytes())
         .ok()
         .expect(rt, "no wiring")

@@ -5,13 +5,13 @@ use crate::judging::{push, put_rule};
 use crate::reading::one_event;
 use ccr_base::{List, MsgId, OutOfMemory, PortNo, Spot, TaskId};
 use ccr_laws::fate;
-use ccr_model::choices::is_choice;
 use ccr_model::data::play_of;
 use ccr_model::enough::can_fire;
 use ccr_model::firings::{cut, dropped, fired, put as put_of};
 use ccr_model::live::{has_room, is_live};
 use ccr_model::posts::{held, taken};
 use ccr_model::rules::{cuts_at, drop_at, may_admit, may_put};
+use ccr_model::selections::is_selection;
 use ccr_model::tasks::{queued, running, waiting};
 use ccr_model::{Event, Fate, History, TaskState, refused_by};
 use ccr_try::{first_number, put, put_message, put_number, put_task, put_truth};
@@ -121,7 +121,7 @@ fn holds(
         "is_live" => is_live(alloc, wiring, events, of.spot),
         "has_room" => has_room(alloc, wiring, events, of.spot),
         "can_fire" => can_fire(alloc, wiring, events, of.spot),
-        "is_choice" => is_choice(alloc, wiring, events, of.spot, &[of.message]),
+        "is_selection" => is_selection(alloc, wiring, events, of.spot, &[of.message]),
         "may_admit" => may_admit(alloc, wiring, events, of.task),
         "may_put" => may_put(alloc, wiring, events, of.task),
         _ => return None,

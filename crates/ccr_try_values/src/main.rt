@@ -21,13 +21,10 @@ use crate::making::put_code;
 use crate::sizes::{FULL, SMALL, Sizes, parts, set};
 use ccr_base::List;
 use ccr_try::{Row, RowLine, first_number, is_due, put, read_line, text_of};
-use ccr_wiretext::read_wiring;
+use ccr_wiretext::{MAX_WIRING_TEXT, read_wiring};
 use ccr_wiring::Wiring;
 use std::alloc::Global;
 use std::io;
-
-/// The most bytes that a wiring text has.
-const LONGEST: usize = 1_048_576;
 
 /// What the rows of a case start from: the texts of a wiring and of a history.
 #[derive(Clone, Copy)]
@@ -54,7 +51,7 @@ fn tell_over(alloc: Global, wiring: &Wiring, past: &str, row: &Row<'_>, out: &mu
 /// What the call answers of the wiring and the history that the rows start from.
 fn tell_history(alloc: Global, start: Start<'_>, row: &Row<'_>, out: &mut List<u8>) {
     let text = text_of(alloc, start.with, "");
-    if text.len() <= LONGEST {
+    if text.len() <= MAX_WIRING_TEXT {
         match read_wiring(alloc, text.as_slice()) {
             Ok(wiring) => tell_over(alloc, &wiring, start.past, row, out),
             Err(_) => put(out, b"no wiring"),

@@ -3,18 +3,16 @@
 use crate::events::put_event;
 use ccr_base::List;
 use ccr_model::History;
+use ccr_text::MAX_TEXT;
 use ccr_trace::{HistoryRefused, read_history, write_history};
 use ccr_try::{put, put_number, put_refused, text_of};
 use ccr_wiring::Wiring;
 use std::alloc::Global;
 
-/// The most bytes that a text has.
-const LONGEST: usize = 33_554_432;
-
 /// 0 0, or the line and code with which both texts, one behind the other, are refused.
 pub fn refusal(alloc: Global, wiring: &Wiring, past: &str, lines: &str, out: &mut List<u8>) {
     let text = text_of(alloc, past, lines);
-    if text.len() > LONGEST {
+    if text.len() > MAX_TEXT {
         return;
     }
     match read_history(alloc, wiring, text.as_slice()) {
@@ -26,7 +24,7 @@ pub fn refusal(alloc: Global, wiring: &Wiring, past: &str, lines: &str, out: &mu
 
 /// The history that these bytes say.
 fn read(alloc: Global, wiring: &Wiring, text: &[u8]) -> Option<History> {
-    if text.len() > LONGEST {
+    if text.len() > MAX_TEXT {
         return None;
     }
     match read_history(alloc, wiring, text) {
@@ -50,7 +48,7 @@ fn put_history(alloc: Global, wiring: &Wiring, history: &History, out: &mut List
 /// How many lines and bytes stand before the line `report 1`, and the history, written again.
 pub fn again(alloc: Global, wiring: &Wiring, text: &str, out: &mut List<u8>) {
     let text = text_of(alloc, text, "");
-    if text.len() > LONGEST {
+    if text.len() > MAX_TEXT {
         return;
     }
     if let Ok(read) = read_history(alloc, wiring, text.as_slice()) {

@@ -3,18 +3,16 @@
 use crate::wirings::put_refusal;
 use ccr_base::List;
 use ccr_replay::{read_record, read_turns, write_record};
+use ccr_text::MAX_TEXT;
 use ccr_try::{first_number, numbers_of, put, put_number, put_numbers, text_of};
 use std::alloc::Global;
-
-/// The most bytes that a record has.
-const LONGEST: usize = 33_554_432;
 
 /// The most lines before turns.
 const MOST_LINES: u32 = 4_000_000_000;
 
 /// The workers and the turns, or the line and code with which the text is refused.
 pub fn read(alloc: Global, text: &[u8], out: &mut List<u8>) {
-    if text.len() > LONGEST {
+    if text.len() > MAX_TEXT {
         return;
     }
     match read_record(alloc, text) {
@@ -42,7 +40,7 @@ pub fn turns(alloc: Global, input: &str, out: &mut List<u8>) {
     let (actors, rest) = first_number(rest);
     let text = text_of(alloc, rest, "");
     let text = text.as_slice();
-    if text.len() > LONGEST || lines > MOST_LINES {
+    if text.len() > MAX_TEXT || lines > MOST_LINES {
         return;
     }
     match read_turns(alloc, text, lines, actors) {

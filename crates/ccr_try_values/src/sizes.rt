@@ -81,8 +81,8 @@ fn numbers(alloc: Global, count: u32) -> List<u32> {
 /// Slots at ports that follow one another, from eight times the branch's number on.
 pub fn pattern(alloc: Global, branch: u32, sizes: &Sizes) -> Pattern {
     let mut slots = List::new(alloc);
-    for place in 0..sizes.slots {
-        let port = branch.wrapping_mul(8).wrapping_add(place) % 256;
+    for index in 0..sizes.slots {
+        let port = branch.wrapping_mul(8).wrapping_add(index) % 256;
         let slot = Slot {
             port,
             least: sizes.count,
@@ -233,7 +233,7 @@ pub fn parts(alloc: Global, sizes: &Sizes) -> Parts {
 
 /// Sets the field of this name.
 pub fn set(sizes: &mut Sizes, field: &str, number: u32) {
-    let place = match field {
+    let size = match field {
         "budget" => &mut sizes.budget,
         "queues" => &mut sizes.queues,
         "policy" => &mut sizes.policy,
@@ -252,5 +252,5 @@ pub fn set(sizes: &mut Sizes, field: &str, number: u32) {
         "posts" => &mut sizes.posts,
         _ => return,
     };
-    *place = number;
+    *size = number;
 }

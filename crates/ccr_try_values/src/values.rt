@@ -36,11 +36,11 @@ fn expr_of(text: &str) -> Option<Expr> {
         return Some(Expr::Number(Value::of(&[1, 2])?));
     }
     let (value, rest) = first_number(text);
-    let (place, _) = first_number(rest);
-    Some(Expr::Part(value, place))
+    let (index, _) = first_number(rest);
+    Some(Expr::Part(value, index))
 }
 
-/// For `VERSION pair` or `VERSION VALUE PLACE` the code of small parts with one more handler, which fails with that expression.
+/// For `VERSION pair` or `VERSION VALUE INDEX` the code of small parts with one more handler, which fails with that expression.
 pub fn with_failure(alloc: Global, input: &str, out: &mut List<u8>) {
     let (version, rest) = first_number(input);
     let Some(expr) = expr_of(rest) else {

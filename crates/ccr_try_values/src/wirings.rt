@@ -3,11 +3,8 @@
 use ccr_base::List;
 use ccr_service::{expand, read_service};
 use ccr_try::{put, put_refused};
-use ccr_wiretext::{ReadRefused, read_wiring, write_wiring};
+use ccr_wiretext::{MAX_WIRING_TEXT, ReadRefused, read_wiring, write_wiring};
 use std::alloc::Global;
-
-/// The most bytes that a wiring text has.
-pub const LONGEST: usize = 1_048_576;
 
 /// The line and code of the refusal.
 pub fn put_refusal(out: &mut List<u8>, refused: ReadRefused) {
@@ -19,7 +16,7 @@ pub fn put_refusal(out: &mut List<u8>, refused: ReadRefused) {
 
 /// 0 0, or the line and code with which the text is refused.
 pub fn read(alloc: Global, text: &[u8], out: &mut List<u8>) {
-    if text.len() > LONGEST {
+    if text.len() > MAX_WIRING_TEXT {
         return;
     }
     match read_wiring(alloc, text) {
@@ -30,7 +27,7 @@ pub fn read(alloc: Global, text: &[u8], out: &mut List<u8>) {
 
 /// The canonical text of the wiring.
 pub fn write(alloc: Global, text: &[u8], out: &mut List<u8>) {
-    if text.len() > LONGEST {
+    if text.len() > MAX_WIRING_TEXT {
         return;
     }
     let Ok(wiring) = read_wiring(alloc, text) else {
@@ -43,7 +40,7 @@ pub fn write(alloc: Global, text: &[u8], out: &mut List<u8>) {
 
 /// 0 0, or the line and code with which the text is refused.
 pub fn read_services(alloc: Global, text: &[u8], out: &mut List<u8>) {
-    if text.len() > LONGEST {
+    if text.len() > MAX_WIRING_TEXT {
         return;
     }
     match read_service(alloc, text) {
@@ -54,7 +51,7 @@ pub fn read_services(alloc: Global, text: &[u8], out: &mut List<u8>) {
 
 /// The canonical text of the wiring that the service stands for.
 pub fn expand_service(alloc: Global, text: &[u8], out: &mut List<u8>) {
-    if text.len() > LONGEST {
+    if text.len() > MAX_WIRING_TEXT {
         return;
     }
     let Ok(service) = read_service(alloc, text) else {

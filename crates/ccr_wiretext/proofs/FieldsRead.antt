@@ -1,4 +1,4 @@
--- The places of one word or two: what is read is in the grammar, and what is in the grammar is read.
+-- The fields of one word or two: what is read is in the grammar, and what is in the grammar is read.
 use Rattle.std.proofs.Common.{◌≡◌, ℕ, true, List, [], ◌∷◌, ◌++◌, Option, Result, Ok, Err, inl, inr, refl, ap, subst, ◌∙◌, arith}
 use Rattle.std.specs.Prelude.{nat_le, ◌&&◌, ◌==◌, not, is_some, codes}
 use Rattle.std.specs.Option.{option_and_then}
@@ -12,6 +12,7 @@ use Rattle.ccr_base.specs.declared.handlers.Expr.{Expr}
 use Rattle.ccr_base.specs.declared.handlers.Expr.TheVariants as exprs
 use Rattle.ccr_base.proofs.Texts.{same_word}
 use Rattle.ccr_base.proofs.Booleans.{not_true, chosen}
+use Rattle.ccr_base.proofs.Options.{none_is}
 use Rattle.ccr_text.specs.Words.{number_of, is_name_of}
 use Rattle.ccr_text.specs.Names.{meaning_of}
 use Rattle.ccr_text.specs.Fields.{Words, ◌>>=◌, unless, or_code, word, number, number_within, policy}
@@ -21,7 +22,7 @@ use Rattle.ccr_wiretext.specs.Names.{Naming, as_arbiter}
 use Rattle.ccr_wiretext.specs.Drafts.{Declared}
 use Rattle.ccr_wiretext.specs.Fields.{new_name, reference, numbers_after, several, single, value_in, value, part, group, expr, interleave}
 use Rattle.ccr_wiretext.specs.Grammar.{IsNew, Refers, IsNumber, IsWithin, IsPolicy, IsGroup, IsValueWord, IsExpr, IsInterleave}
-use Rattle.ccr_wiretext.proofs.ReadTellsSteps.{bind_ok, ok_is, unless_ok, or_code_ok, word_ok, none_is}
+use Rattle.ccr_wiretext.proofs.ReadTellsSteps.{bind_ok, ok_is, unless_ok, or_code_ok, word_ok}
 use Rattle.ccr_wiretext.proofs.Each.{both}
 use Rattle.ccr_wiretext.proofs.ValuesRead.{value_in_said, value_in_read, no_value}
 
@@ -185,13 +186,13 @@ value_read version word numbers rest said = rw (value_in_read version word numbe
 -- what is told of the two numbers behind `part`
 record IsTwo (words : Words) (x : Expr × Words) : Type 0 where
   message : ℕ
-  place : ℕ
+  index : ℕ
   first : List ℕ
   second : List ℕ
   spelled : words ≡ first ∷ second ∷ x.1
   counted : IsWithin 0 65535 first message
-  within : IsWithin 0 7 second place
-  is : exprs.Part message place ≡ x.0
+  within : IsWithin 0 7 second index
+  is : exprs.Part message index ≡ x.0
 
 part_said : (words : Words) (x : Expr × Words) → part words ≡ Ok x → IsTwo words x
 unfolding part
@@ -203,7 +204,7 @@ part_said words x e =
     let same : (exprs.Part a.0.0 b.0.0, b.0.1) ≡ x = ok_is (exprs.Part a.0.0 b.0.0, b.0.1) x b.2 in
     record {
       message = a.0.0;
-      place = b.0.0;
+      index = b.0.0;
       first = one.0;
       second = two.0;
       spelled = one.1 ∙ ap (λ (v : Words). one.0 ∷ v) two.1 ∙ ap (λ (p : Expr × Words). one.0 ∷ two.0 ∷ p.1) same;
@@ -212,9 +213,9 @@ part_said words x e =
       is = ap (λ (p : Expr × Words). p.0) same;
     }
 
-part_read : (first second : List ℕ) (message place : ℕ) (rest : Words) → IsWithin 0 65535 first message → IsWithin 0 7 second place → part (first ∷ second ∷ rest) ≡ Ok (exprs.Part message place, rest)
+part_read : (first second : List ℕ) (message index : ℕ) (rest : Words) → IsWithin 0 65535 first message → IsWithin 0 7 second index → part (first ∷ second ∷ rest) ≡ Ok (exprs.Part message index, rest)
 unfolding part
-part_read first second message place rest counted within = rw (within_read 0 65535 first message (second ∷ rest) counted, within_read 0 7 second place rest within) refl
+part_read first second message index rest counted within = rw (within_read 0 65535 first message (second ∷ rest) counted, within_read 0 7 second index rest within) refl
 
 -- EXPR
 pub expr_said : (version : ℕ) (words : Words) (x : Expr × Words) → expr version words ≡ Ok x → (front : Words) × (words ≡ front ++ x.1) × IsExpr version front x.0
@@ -285,7 +286,7 @@ number_expr version word value rest said =
 pub expr_read : (version : ℕ) (front : Words) (value : Expr) (rest : Words) → IsExpr version front value → expr version (front ++ rest) ≡ Ok (value, rest)
 unfolding expr
 expr_read version front (exprs.Number value) rest said = ap (λ (v : Words). expr version (v ++ rest)) said.1 ∙ number_expr version said.0 value rest said.2
-expr_read version front (exprs.Part message place) rest said = rw (said.spelled, said.newer, part_read said.first said.second message place rest said.counted said.within) refl
+expr_read version front (exprs.Part message index) rest said = rw (said.spelled, said.newer, part_read said.first said.second message index rest said.counted said.within) refl
 expr_read version front (exprs.Arg k) rest said = rw (said.1, within_read 0 65535 said.0 k rest said.2) refl
 expr_read version front exprs.Sum rest said = rw said refl
 expr_read version front exprs.Count rest said = rw said refl

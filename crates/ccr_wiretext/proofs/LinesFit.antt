@@ -1,7 +1,6 @@
 -- Facts that a line of the grammar tells.
-use Rattle.std.proofs.Common.{◌≡◌, ℕ, ◌<◌, Bool, true, false, List, [], ◌∷◌, ◌++◌, length, Option, Some, inl, inr, refl, sym, ap, subst, ◌∙◌, arith, append_assoc, append-nil}
-use Rattle.std.specs.Prelude.{◌==◌, ◌&&◌, ◌||◌, not}
-use Rattle.std.specs.List.{list_any}
+use Rattle.std.proofs.Common.{◌≡◌, ℕ, ◌<◌, Bool, true, false, List, [], ◌∷◌, ◌++◌, length, Option, Some, inl, inr, refl, sym, ap, subst, arith, append_assoc, append-nil}
+use Rattle.std.specs.Prelude.{◌==◌, ◌&&◌, not}
 use Rattle.std.proofs.lemmas.Bool.{and_parts}
 use Rattle.ccr_base.specs.declared.handlers.Action.{Action}
 use Rattle.ccr_base.specs.declared.handlers.Action.TheVariants as actions
@@ -163,10 +162,6 @@ pub causes_fit : (draft : Declared) (handlers : ℕ) → Known draft.parts handl
     → PortsFit (length draft.parts.causes) causes × (are_apart causes ≡ true)
 causes_fit draft handlers known causes words said = causes_go draft handlers known [] causes words refl said
 
-pub same_ports : (found : List Slot) (port : ℕ) → list_any (λ other. other.port == port) found ≡ has_number (slot_ports found) port
-same_ports [] port = refl
-same_ports (slot ∷ found) port = ap (λ t. (slot.port == port) || t) (same_ports found port)
-
 ports_push : (found : List Slot) (slot : Slot) → slot_ports (found ++ slot ∷ []) ≡ slot_ports found ++ slot.port ∷ []
 ports_push [] slot = refl
 ports_push (other ∷ found) slot = ap (λ (t : List ℕ). other.port ∷ t) (ports_push found slot)
@@ -175,7 +170,7 @@ slots_fit : (draft : Declared) (handlers : ℕ) → Known draft.parts handlers d
     → Each (SlotFit (length draft.parts.ports)) slots × (are_apart (slot_ports (found ++ slots)) ≡ true)
 slots_fit draft handlers known found [] words apart said = (tt, rw (append-nil found) apart)
 slots_fit draft handlers known found (slot ∷ slots) words apart said =
-    let new : are_apart (slot_ports (found ++ slot ∷ [])) ≡ true = rw (ports_push found slot) (apart_snoc (slot_ports found) slot.port apart (sym (same_ports found slot.port) ∙ said.4)) in
+    let new : are_apart (slot_ports (found ++ slot ∷ [])) ≡ true = rw (ports_push found slot) (apart_snoc (slot_ports found) slot.port apart said.4) in
     let rest = slots_fit draft handlers known (found ++ slot ∷ []) slots said.1 new said.5 in (
       ((port_there draft handlers said.3.port slot.port known said.3.refers, said.3.exact, said.3.counted.above, said.3.counted.below), rest.0),
       subst (λ all. are_apart (slot_ports all) ≡ true) (append_assoc found (slot ∷ []) slots) rest.1,

@@ -49,7 +49,7 @@ kind_more old new h i queues ports causes handlers kinds.Poster fit = tt
 pub known_more : (old new : Parts) (h i : ℕ) → length old.queues ≤ length new.queues → length old.ports ≤ length new.ports → length old.causes ≤ length new.causes → h ≤ i → (names : Naming) → Known old h names → Known new i names
 known_more old new h i queues ports causes handlers names known = each_more _ _ (λ entry. kind_more old new h i queues ports causes handlers entry.1) names known
 
--- ---- a name more, at its place among the declared names
+-- ---- a name more, at its index among the declared names
 
 abbrev Adds : Naming → List ℕ → Named → List (List ℕ) → List (List ℕ) → Type 0
 Adds names name what old new = (rest : List (List ℕ)) → NamesApart names (old ++ rest) → NamesApart (names ++ (name, what) ∷ []) (new ++ rest)

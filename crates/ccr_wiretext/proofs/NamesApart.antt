@@ -45,7 +45,7 @@ named_none (entry ∷ names) name word what e = by (bytes_eq word entry.0) e (na
     by true h next = absurd cc
     by false h next = next h
 
--- one name more, at its place among the names of the parts
+-- one name more, at its index among the names of the parts
 pub name_added : (names : Naming) (xs ys : List (List ℕ)) (name : List ℕ) (what : Named) → NamesApart names (xs ++ ys) → IsNew names name → NamesApart (names ++ (name, what) ∷ []) (xs ++ name ∷ ys)
 name_added names xs ys name what apart new = record {
   apart = repeated_insert xs ys name apart.apart (apart.fresh name new.new);

@@ -14,6 +14,7 @@ use Rattle.ccr_base.proofs.Booleans.{not_true, chosen}
 use Rattle.ccr_base.specs.Lists.{has_number}
 use Rattle.ccr_text.specs.Names.{meaning_of}
 use Rattle.ccr_text.specs.Fields.{Words, ◌>>=◌, unless, or_code, no_more, number, number_within}
+use Rattle.ccr_wiring.specs.Repeats.{slot_ports}
 use Rattle.ccr_wiretext.specs.Names.{Naming, as_cause}
 use Rattle.ccr_wiretext.specs.Drafts.{Declared}
 use Rattle.ccr_wiretext.specs.Fields.{port, interleave}
@@ -59,18 +60,18 @@ pred_read front (preds.Ge n) rest said = rw (said.1, number_read said.0 n rest s
 
 -- one slot
 pub slot_said : (draft : Declared) (found : List Slot) (words : Words) (x : Slot × Words) → slot draft found words ≡ Ok x
-    → (front : Words) × (words ≡ front ++ x.1) × IsSlot draft front x.0 × (list_any (λ other. other.port == x.0.port) found ≡ false)
+    → (front : Words) × (words ≡ front ++ x.1) × IsSlot draft front x.0 × (has_number (slot_ports found) x.0.port ≡ false)
 unfolding slot
 slot_said draft found words x e =
     let to = bind_ok (port draft words) _ x e in
-    let apart = bind_ok (unless (not (list_any (λ other. other.port == to.0.0) found)) 8) _ x to.2 in
+    let apart = bind_ok (unless (not (has_number (slot_ports found) to.0.0)) 8) _ x to.2 in
     let count = bind_ok (number_within 1 1000 to.0.1) _ x apart.2 in
     let test = bind_ok (pred count.0.1) _ x count.2 in
     let referred = port_said draft words to.0 to.1 in
     let counted = within_said 1 1000 to.0.1 count.0 count.1 in
     let tested = pred_said count.0.1 test.0 test.1 in
     let made : Slot = record { port = to.0.0; least = count.0.0; most = count.0.0; pred = test.0.0 } in
-    subst (λ (y : Slot × Words). (front : Words) × (words ≡ front ++ y.1) × IsSlot draft front y.0 × (list_any (λ other. other.port == y.0.port) found ≡ false)) (ok_is (made, test.0.1) x test.2) (
+    subst (λ (y : Slot × Words). (front : Words) × (words ≡ front ++ y.1) × IsSlot draft front y.0 × (has_number (slot_ports found) y.0.port ≡ false)) (ok_is (made, test.0.1) x test.2) (
       referred.0 ∷ counted.0 ∷ tested.0,
       referred.1 ∙ ap (λ (v : Words). referred.0 ∷ v) (counted.1 ∙ ap (λ (v : Words). counted.0 ∷ v) tested.1),
       record { port = referred.0; count = counted.0; test = tested.0; spelled = refl; refers = referred.2; counted = counted.2; exact = refl; tests = tested.2 },
@@ -80,7 +81,7 @@ slot_said draft found words x e =
 slot_is : (s : Slot) → s.most ≡ s.least → record { port = s.port; least = s.least; most = s.least; pred = s.pred } ≡ s
 slot_is s e = ap (λ (m : ℕ). record { port = s.port; least = s.least; most = m; pred = s.pred }) (sym e)
 
-pub slot_read : (draft : Declared) (found : List Slot) (front : Words) (s : Slot) (rest : Words) → IsSlot draft front s → list_any (λ other. other.port == s.port) found ≡ false
+pub slot_read : (draft : Declared) (found : List Slot) (front : Words) (s : Slot) (rest : Words) → IsSlot draft front s → has_number (slot_ports found) s.port ≡ false
     → slot draft found (front ++ rest) ≡ Ok (s, rest)
 unfolding slot
 slot_read draft found front s rest said apart =

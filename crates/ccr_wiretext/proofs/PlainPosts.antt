@@ -7,9 +7,9 @@ use Rattle.std.specs.Option.{option_map}
 use Rattle.std.proofs.lemmas.Bool.Decides.{nat_tests}
 use Rattle.std.proofs.lemmas.List.Splits.{join_with_byte-slice_split, length-slice_split}
 use Rattle.ccr_text.specs.Words.{is_digits, is_graphic, number_of, value_after, words_of, is_clean}
-use Rattle.ccr_text.specs.Lines.{cut, first_line}
+use Rattle.ccr_text.specs.Lines.{split_text, first_line}
 use Rattle.ccr_text.specs.Exact.{exact_number_of, number_first, parts, where_spelled}
-use Rattle.ccr_text.proofs.Digits.{digit_mark}
+use Rattle.ccr_text.proofs.Digits.{digit_graphic}
 use Rattle.ccr_text.proofs.FirstLine.{IsTaken, alone, taken_more, taken_feed}
 use Rattle.ccr_wiring.specs.declared.parts.PosterPart.{PosterPart}
 use Rattle.ccr_wiretext.specs.declared.draft.Block.TheVariants as blocks
@@ -34,8 +34,8 @@ parts_some : (rest : List ℕ) → (length (parts 10 rest) == 0) ≡ false
 parts_some rest = let some = length-slice_split (λ (b : ℕ). b == 10) rest in grind (arith, nat_tests, some)
 
 -- what stands before the first LF, and what behind it
-cut_at : (bytes word behind : List ℕ) → parts 10 bytes ≡ word ∷ parts 10 behind → bytes ≡ word ++ 10 ∷ behind
-cut_at bytes word behind is = sym (join_with_byte-slice_split 10 bytes) ∙ (ap (join_with_byte 10) is ∙ by (parts 10 behind) refl)
+split_at : (bytes word behind : List ℕ) → parts 10 bytes ≡ word ∷ parts 10 behind → bytes ≡ word ++ 10 ∷ behind
+split_at bytes word behind is = sym (join_with_byte-slice_split 10 bytes) ∙ (ap (join_with_byte 10) is ∙ by (parts 10 behind) refl)
   where
     by : (more : List (List ℕ)) → parts 10 behind ≡ more → join_with_byte 10 (word ∷ more) ≡ word ++ 10 ∷ behind
     by [] none = absurd (let some : (length {A = List ℕ} [] == 0) ≡ false = ap (λ (ps : List (List ℕ)). length ps == 0) (sym none) ∙ parts_some behind in cc)
@@ -72,7 +72,7 @@ first_is (word ∷ words) behind n e = by (exact_number_of word) refl e
 number_found : (bytes behind : List ℕ) (n : ℕ) → number_first (parts 10 bytes) ≡ Some (n, parts 10 behind) → (digits : List ℕ) × (bytes ≡ digits ++ 10 ∷ behind) × (number_of digits ≡ Some n)
 number_found bytes behind n e =
     let first = first_is (parts 10 bytes) (parts 10 behind) n e in
-    (first.0, cut_at bytes first.0 behind first.1, first.2)
+    (first.0, split_at bytes first.0 behind first.1, first.2)
 
 -- ---- the words of the line
 
@@ -83,9 +83,9 @@ digits_alone digits n e = by (is_digits digits) (nat_lt (value_after 0 digits) (
     by true b is some = let parts = both (not (length digits == 0)) (list_all is_ascii_digit digits) is in (not_true (length digits == 0) parts.0, parts.1)
     by false b is some = absurd cc
 
-pub digits_marks : (digits : List ℕ) → list_all is_ascii_digit digits ≡ true → list_all is_graphic digits ≡ true
-digits_marks [] e = refl
-digits_marks (b ∷ digits) e = let parts = both (is_ascii_digit b) (list_all is_ascii_digit digits) e in rw (digit_mark b parts.0, digits_marks digits parts.1) refl
+pub digits_graphic : (digits : List ℕ) → list_all is_ascii_digit digits ≡ true → list_all is_graphic digits ≡ true
+digits_graphic [] e = refl
+digits_graphic (b ∷ digits) e = let parts = both (is_ascii_digit b) (list_all is_ascii_digit digits) e in rw (digit_graphic b parts.0, digits_graphic digits parts.1) refl
 
 alone_is : (word : List ℕ) → (length word == 0) ≡ false → alone word ≡ word ∷ []
 alone_is word some = rw some refl
@@ -110,8 +110,8 @@ space_more so rest text after taken is = taken_more so true rest text [] 32 afte
 
 -- one word more, and the space behind it
 word_more : (so : List (List ℕ)) (rest text word after : List ℕ) → IsSoFar so rest text → rest ≡ word ++ 32 ∷ after → list_all is_graphic word ≡ true → (length word == 0) ≡ false → IsSoFar (so ++ word ∷ []) after text
-word_more so rest text word after taken is marks some =
-    subst (λ (words : List (List ℕ)). IsSoFar (so ++ words) after text) (alone_is word some) (taken_more so true rest text word 32 after taken is marks refl no_feed)
+word_more so rest text word after taken is graphic some =
+    subst (λ (words : List (List ℕ)). IsSoFar (so ++ words) after text) (alone_is word some) (taken_more so true rest text word 32 after taken is graphic refl no_feed)
 
 none_yet : (text : List ℕ) → IsSoFar [] text text
 none_yet text = record { words = refl; clean = refl; behind = refl; short = omega arith }
@@ -133,15 +133,15 @@ indented_some text b bytes (inr spaced) = subst (λ (t : List ℕ). t ≢ []) (s
 
 -- what one scan finds is the line's
 pub post_found : (text rest words port numbers behind : List ℕ) (n : ℕ) → IsIndented text rest → rest ≡ codes "post " ++ words → words ≡ port ++ 32 ∷ numbers → list_all is_graphic port ≡ true → port ≢ [] → number_first (parts 10 numbers) ≡ Some (n, parts 10 behind)
-    → (digits : List ℕ) × (number_of digits ≡ Some n) × (words_of (first_line text) ≡ codes "post" ∷ port ∷ digits ∷ []) × (is_clean (first_line text) ≡ true) × (cut text ≡ first_line text ∷ cut behind) × (length behind < length text)
-post_found text rest words port numbers behind n indented begins named marks some number =
+    → (digits : List ℕ) × (number_of digits ≡ Some n) × (words_of (first_line text) ≡ codes "post" ∷ port ∷ digits ∷ []) × (is_clean (first_line text) ≡ true) × (split_text text ≡ first_line text ∷ split_text behind) × (length behind < length text)
+post_found text rest words port numbers behind n indented begins named graphic some number =
     let found = number_found numbers behind n number in
     let digits = found.0 in
     let alone_digits = digits_alone digits n found.2 in
     let three = word_more [] rest text (codes "post") words (begun text rest indented) begins refl refl in
-    let four = word_more (codes "post" ∷ []) words text port numbers three named marks (some_length port some) in
+    let four = word_more (codes "post" ∷ []) words text port numbers three named graphic (some_length port some) in
     let text_some : text ≢ [] = indented_some text 112 (codes "ost " ++ words) (subst (IsIndented text) begins indented) in
-    let last = taken_feed (codes "post" ∷ port ∷ []) true numbers text digits behind text_some four found.1 (digits_marks digits alone_digits.1) in
+    let last = taken_feed (codes "post" ∷ port ∷ []) true numbers text digits behind text_some four found.1 (digits_graphic digits alone_digits.1) in
     let all : alone digits ≡ digits ∷ [] = alone_is digits alone_digits.0 in (
       digits,
       found.2,
@@ -183,7 +183,7 @@ post_added draft new name digits number to part may spelled block added =
     ∙ ap Ok (ap (λ (p : PosterPart). with_post (apart draft) p (record { port = to; value = number ∷ []; causes = [] })) (same_part may.part part (sym may.block ∙ block)) ∙ sym added)
 
 -- the line is taken in
-pub plain_taken : (draft new : Declared) (text name behind : List ℕ) (number : ℕ) (digits : List ℕ) → number_of digits ≡ Some number → words_of (first_line text) ≡ codes "post" ∷ name ∷ digits ∷ [] → is_clean (first_line text) ≡ true → cut text ≡ first_line text ∷ cut behind → length behind < length text
+pub plain_taken : (draft new : Declared) (text name behind : List ℕ) (number : ℕ) (digits : List ℕ) → number_of digits ≡ Some number → words_of (first_line text) ≡ codes "post" ∷ name ∷ digits ∷ [] → is_clean (first_line text) ≡ true → split_text text ≡ first_line text ∷ split_text behind → length behind < length text
     → line_in draft.block draft keywords.Post (name ∷ digits ∷ []) ≡ Ok new → IsLineTaken (Some draft) text (Some new) behind
 unfolding after_all after_words line_in keyword
 plain_taken draft new text name behind number digits spelled words clean lines shorter taken = record {

@@ -22,34 +22,34 @@ is_slash b = b == 47
 abbrev before : List ℕ → ℕ
 before bytes = position_or_len is_slash bytes
 
--- the first slash cuts the bytes
-record IsCut (bytes : List ℕ) : Type 0 where
+-- the first slash splits the bytes
+record IsSplit (bytes : List ℕ) : Type 0 where
   set : List ℕ
   name : List ℕ
   spelled : bytes ≡ set ++ 47 ∷ name
   plain : list_any is_slash set ≡ false
-  place : before bytes ≡ length set
+  index : before bytes ≡ length set
 
-cut_at : (bytes : List ℕ) → ((list_any is_slash bytes ≡ false) × (before bytes ≡ length bytes)) ⊎ IsCut bytes
-cut_at [] = inl (refl, refl)
-cut_at (b ∷ bytes) = by (is_slash b) refl (cut_at bytes)
+split_at : (bytes : List ℕ) → ((list_any is_slash bytes ≡ false) × (before bytes ≡ length bytes)) ⊎ IsSplit bytes
+split_at [] = inl (refl, refl)
+split_at (b ∷ bytes) = by (is_slash b) refl (split_at bytes)
   where
-    by : (t : Bool) → is_slash b ≡ t → ((list_any is_slash bytes ≡ false) × (before bytes ≡ length bytes)) ⊎ IsCut bytes
-        → ((list_any is_slash (b ∷ bytes) ≡ false) × (before (b ∷ bytes) ≡ length (b ∷ bytes))) ⊎ IsCut (b ∷ bytes)
+    by : (t : Bool) → is_slash b ≡ t → ((list_any is_slash bytes ≡ false) × (before bytes ≡ length bytes)) ⊎ IsSplit bytes
+        → ((list_any is_slash (b ∷ bytes) ≡ false) × (before (b ∷ bytes) ≡ length (b ∷ bytes))) ⊎ IsSplit (b ∷ bytes)
     by true e rest = let is : b ≡ 47 = grind (arith, nat_tests, e) in
-        inr (record { set = []; name = bytes; spelled = ap (λ (v : ℕ). v ∷ bytes) is; plain = refl; place = rw e refl })
-    by false e (inl (plain, place)) = inl (rw (e, plain) refl, rw (e, place) (omega arith))
-    by false e (inr cut) = inr (record { set = b ∷ cut.set; name = cut.name; spelled = ap (λ (v : List ℕ). b ∷ v) cut.spelled; plain = rw (e, cut.plain) refl; place = rw (e, cut.place) (omega arith) })
+        inr (record { set = []; name = bytes; spelled = ap (λ (v : ℕ). v ∷ bytes) is; plain = refl; index = rw e refl })
+    by false e (inl (plain, index)) = inl (rw (e, plain) refl, rw (e, index) (omega arith))
+    by false e (inr split) = inr (record { set = b ∷ split.set; name = split.name; spelled = ap (λ (v : List ℕ). b ∷ v) split.spelled; plain = rw (e, split.plain) refl; index = rw (e, split.index) (omega arith) })
 
 shorter : (set name : List ℕ) → length set < length (set ++ 47 ∷ name)
 shorter set name = omega (arith, length-append {A = ℕ} set (47 ∷ name))
 
-cut_index : (word : List ℕ) (cut : IsCut word) → slash_index word ≡ Some (length cut.set)
+split_index : (word : List ℕ) (split : IsSplit word) → slash_index word ≡ Some (length split.set)
 unfolding slash_index
-cut_index word cut =
-    let less : before word < length word = subst (λ w. before word < length w) (sym cut.spelled) (subst (λ n. n < length (cut.set ++ 47 ∷ cut.name)) (sym cut.place) (shorter cut.set cut.name)) in
+split_index word split =
+    let less : before word < length word = subst (λ w. before word < length w) (sym split.spelled) (subst (λ n. n < length (split.set ++ 47 ∷ split.name)) (sym split.index) (shorter split.set split.name)) in
     let test : nat_lt (before word) (length word) ≡ true = grind (arith, nat_tests, less) in
-    rw test (ap Some cut.place)
+    rw test (ap Some split.index)
 
 before_slash : (set name : List ℕ) → list_any is_slash set ≡ false → before (set ++ 47 ∷ name) ≡ length set
 before_slash [] name plain = refl
@@ -60,13 +60,13 @@ before_slash (b ∷ set) name plain = by (is_slash b) refl plain (before_slash s
     by false e f next = rw (e, next f) (omega arith)
 
 slash_at : (set name : List ℕ) → IsPlain set → slash_index (set ++ 47 ∷ name) ≡ Some (length set)
-slash_at set name plain = cut_index (set ++ 47 ∷ name) (record { set = set; name = name; spelled = refl; plain = plain; place = before_slash set name plain })
+slash_at set name plain = split_index (set ++ 47 ∷ name) (record { set = set; name = name; spelled = refl; plain = plain; index = before_slash set name plain })
 
 plain_none : (word : List ℕ) → IsPlain word → slash_index word ≡ None
 unfolding slash_index
-plain_none word plain = elim (cut_at word) [
+plain_none word plain = elim (split_at word) [
   | inl parts ↦ let test : nat_lt (before word) (length word) ≡ false = grind (arith, nat_tests, parts.1) in rw test refl
-  | inr cut ↦ absurd (slashed cut.set cut.name cut.plain (ap (list_any is_slash) (sym cut.spelled) ∙ plain))
+  | inr split ↦ absurd (slashed split.set split.name split.plain (ap (list_any is_slash) (sym split.spelled) ∙ plain))
 ]
   where
     slashed : (set name : List ℕ) → list_any is_slash set ≡ false → list_any is_slash (set ++ 47 ∷ name) ≡ false → ⊥
@@ -77,10 +77,10 @@ plain_none word plain = elim (cut_at word) [
         by true e f next = absurd cc
         by false e f next = next e f
 
-index_cut : (word : List ℕ) (place : ℕ) → slash_index word ≡ Some place → (cut : IsCut word) × (place ≡ length cut.set)
-index_cut word place e = elim (cut_at word) [
-  | inl parts ↦ absurd (let h : None ≡ Some place = sym (plain_none word parts.0) ∙ e in cc)
-  | inr cut ↦ (cut, (let h : Some (length cut.set) ≡ Some place = sym (cut_index word cut) ∙ e in cc))
+index_split : (word : List ℕ) (index : ℕ) → slash_index word ≡ Some index → (split : IsSplit word) × (index ≡ length split.set)
+index_split word index e = elim (split_at word) [
+  | inl parts ↦ absurd (let h : None ≡ Some index = sym (plain_none word parts.0) ∙ e in cc)
+  | inr split ↦ (split, (let h : Some (length split.set) ≡ Some index = sym (split_index word split) ∙ e in cc))
 ]
 
 drop_behind : (set name : List ℕ) → drop (suc (length set)) (set ++ 47 ∷ name) ≡ name
@@ -97,21 +97,21 @@ port_is draft word n e = by (slash_index word) refl e
     by None at h = inl (unslashed, h)
       where
         unslashed : IsPlain word
-        unslashed = elim (cut_at word) [ inl parts ↦ parts.0 | inr cut ↦ absurd (let found : slash_index word ≡ Some (length cut.set) = cut_index word cut in let h2 : None ≡ Some (length cut.set) = sym at ∙ found in cc) ]
-    by (Some place) at h =
-        let cut = index_cut word place at in
-        let set = some_then (set_port draft (drop (place + 1) word)) (option_and_then as_set (meaning_of draft.names (take place word))) n h in
-        let other = some_then (member draft set.0) (option_and_then as_port (meaning_of draft.names (drop (place + 1) word))) n set.2 in
-        let front : take place word ≡ cut.0.set = ap (λ k. take k word) cut.1 ∙ ap (take (length cut.0.set)) cut.0.spelled ∙ take-append_seam cut.0.set (47 ∷ cut.0.name) in
-        let behind : drop (place + 1) word ≡ cut.0.name = ap (λ k. drop (k + 1) word) cut.1 ∙ ap (drop (length cut.0.set + 1)) cut.0.spelled ∙ drop_front cut.0.set cut.0.name in
+        unslashed = elim (split_at word) [ inl parts ↦ parts.0 | inr split ↦ absurd (let found : slash_index word ≡ Some (length split.set) = split_index word split in let h2 : None ≡ Some (length split.set) = sym at ∙ found in cc) ]
+    by (Some index) at h =
+        let split = index_split word index at in
+        let set = some_then (set_port draft (drop (index + 1) word)) (option_and_then as_set (meaning_of draft.names (take index word))) n h in
+        let other = some_then (member draft set.0) (option_and_then as_port (meaning_of draft.names (drop (index + 1) word))) n set.2 in
+        let front : take index word ≡ split.0.set = ap (λ k. take k word) split.1 ∙ ap (take (length split.0.set)) split.0.spelled ∙ take-append_seam split.0.set (47 ∷ split.0.name) in
+        let behind : drop (index + 1) word ≡ split.0.name = ap (λ k. drop (k + 1) word) split.1 ∙ ap (drop (length split.0.set + 1)) split.0.spelled ∙ drop_front split.0.set split.0.name in
         elim (chosen (has_number (members_of draft set.0) other.0) (Some other.0) None (Some n) other.2) [
           | inl is ↦
               let same : other.0 ≡ n = (let s : Some other.0 ≡ Some n = is.1 in cc) in
               inr (record {
-                set = cut.0.set;
-                name = cut.0.name;
-                spelled = cut.0.spelled;
-                plain = cut.0.plain;
+                set = split.0.set;
+                name = split.0.name;
+                spelled = split.0.spelled;
+                plain = split.0.plain;
                 number = set.0;
                 in_set = subst (λ w. option_and_then as_set (meaning_of draft.names w) ≡ Some set.0) front set.1;
                 in_names = subst (λ w. option_and_then as_port (meaning_of draft.names w) ≡ Some n) behind (other.1 ∙ ap Some same);

@@ -1,6 +1,6 @@
--- What a place or form that was read tells of its steps.
-use Rattle.std.proofs.Common.{◌≡◌, ℕ, ◌<◌, true, Option, Some, None, Result, Ok, Err, refl, arith}
-use Rattle.std.specs.Prelude.{nat_lt, not, is_some}
+-- What a field or form that was read tells of its steps.
+use Rattle.std.proofs.Common.{◌≡◌, ℕ, ◌<◌, true, Result, Ok, Err, refl, arith}
+use Rattle.std.specs.Prelude.{nat_lt}
 use Rattle.std.proofs.lemmas.Bool.Decides.{nat_tests}
 use Rattle.ccr_text.specs.Fields.{◌>>=◌}
 pub use Rattle.ccr_text.proofs.Steps.{unless_ok, or_code_ok, word_ok, no_more_ok, limit_ok}
@@ -15,10 +15,6 @@ done x = Ok x
 
 pub ok_is : {A : Type 0} (x y : A) → done x ≡ done y → x ≡ y
 ok_is x y e = cc
-
-pub none_is : {A : Type 0} (o : Option A) → not (is_some o) ≡ true → o ≡ None
-none_is None e = refl
-none_is (Some x) e = absurd cc
 
 pub limit_read : (limit count : ℕ) → count < limit → nat_lt count limit ≡ true
 limit_read limit count room = grind (arith, nat_tests, room)

@@ -21,7 +21,7 @@ use Rattle.ccr_wiring.specs.declared.parts.Kind.{Kind}
 use Rattle.ccr_wiring.specs.declared.parts.Kind.TheVariants as arbiters
 use Rattle.ccr_wiring.specs.Groups.{is_receive, may_have}
 use Rattle.ccr_wiring.specs.Repeats.{members_in_all}
-use Rattle.ccr_wiring.specs.Spots.{branch_named, branches_named, named_ports}
+use Rattle.ccr_wiring.specs.Spots.{branch_named, named_ports}
 use Rattle.ccr_wiretext.specs.declared.keyword.Keyword.{Keyword}
 use Rattle.ccr_wiretext.specs.declared.keyword.Keyword.TheVariants as keywords
 use Rattle.ccr_wiretext.specs.declared.named.Named.{Named}
@@ -35,14 +35,10 @@ use Rattle.ccr_wiretext.specs.Lines.{IsBudget, IsQueue, IsName, IsSet, IsCause, 
 use Rattle.ccr_base.proofs.Lists.{each_push}
 use Rattle.ccr_base.specs.Lists.{are_apart}
 use Rattle.ccr_wiretext.proofs.Fit.{ActionFit, BranchFit, PostFit}
-use Rattle.ccr_wiretext.proofs.SpotCounts.{uncrowded_more, arbiters_same}
+use Rattle.ccr_wiretext.proofs.SpotCounts.{uncrowded_more, arbiters_same, arbiter_named}
 use Rattle.ccr_wiretext.proofs.Sound.{KindFit, Sound, queue_fits, port_fits, set_fits, cause_fits, handler_fits, arbiter_fits, poster_fits, domain_fits}
 use Rattle.ccr_wiretext.proofs.LinesFit.{policy_fit, members_fit, causes_fit, branch_fit, action_fit, value_fit, interleaves_fit, port_there, receive_group, group_may}
 use Rattle.ccr_wiretext.proofs.NamesAdded.{sum_push, known_more, queue_adds, port_adds, set_adds, cause_adds, handler_adds, arbiter_adds, branch_adds, poster_adds, names_same, posters_same}
-
--- the ports that an arbiter's spots name
-abbrev arbiter_named : Parts → ArbiterPart → List ℕ
-arbiter_named parts part = branches_named parts part.branches
 
 -- ---- the lines outside blocks
 

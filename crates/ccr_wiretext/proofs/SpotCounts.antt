@@ -17,6 +17,10 @@ use Rattle.ccr_wiretext.proofs.Each.{neither}
 use Rattle.ccr_base.specs.Lists.{Each}
 use Rattle.ccr_wiretext.proofs.Fit.{BranchFit, ArbiterFit}
 
+-- the ports that an arbiter's spots name
+abbrev pub arbiter_named : Parts → ArbiterPart → List ℕ
+arbiter_named parts part = branches_named parts part.branches
+
 -- ---- handlers behind those that a branch refers to change nothing
 
 get_front : (xs : List HandlerPart) (x : HandlerPart) (k : ℕ) → k < length xs → slice_get (xs ++ x ∷ []) k ≡ slice_get xs k

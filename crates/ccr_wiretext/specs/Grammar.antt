@@ -1,4 +1,4 @@
--- The grammar of the places and lines, apart from reading: which words say what. No codes, and no order of looking.
+-- The grammar of the fields and lines, apart from reading: which words say what. No codes, and no order of looking.
 use Rattle.std.specs.Prelude.{◌≡◌, ℕ, ◌≤◌, true, false, ◌==◌, List, [], ◌∷◌, ◌++◌, length, Option, Some, None, ◌⊎◌, codes}
 use Rattle.std.specs.Option.{option_and_then}
 use Rattle.std.specs.List.{list_any, join_with_byte}
@@ -19,6 +19,7 @@ use Rattle.ccr_text.specs.Words.{number_of, is_name_of}
 use Rattle.ccr_text.specs.Names.{meaning_of}
 use Rattle.ccr_text.specs.Fields.{Words}
 use Rattle.ccr_wiring.specs.References.{no_interleave}
+use Rattle.ccr_wiring.specs.Repeats.{slot_ports}
 use Rattle.ccr_wiretext.specs.declared.named.Named.{Named}
 use Rattle.ccr_wiretext.specs.Names.{Naming, as_port, as_set, as_cause, as_arbiter}
 use Rattle.ccr_wiretext.specs.Drafts.{Declared, members_of}
@@ -138,7 +139,7 @@ abbrev pub IsSlots : Declared → List Slot → List Slot → Words → Type 0
 IsSlots draft found [] words = words ≡ []
 IsSlots draft found (slot ∷ slots) words =
     (front : Words) × (rest : Words) × (words ≡ front ++ rest) × IsSlot draft front slot
-    × (list_any (λ other. other.port == slot.port) found ≡ false) × IsSlots draft (found ++ slot ∷ []) slots rest
+    × (has_number (slot_ports found) slot.port ≡ false) × IsSlots draft (found ++ slot ∷ []) slots rest
 
 -- N PORT PORT
 pub record IsGather (draft : Declared) (words : Words) (total first second : ℕ) : Type 0 where

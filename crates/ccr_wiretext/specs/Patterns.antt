@@ -1,5 +1,5 @@
--- The places of a line that go on up to its end: patterns, the members of a set, combined Interleaves, the causes of a post.
-use Rattle.std.specs.Prelude.{ℕ, Bool, zero, suc, List, [], ◌∷◌, ◌++◌, Result, Ok, Err, ◌==◌, ◌||◌, not, if◌then◌else◌, codes}
+-- The fields of a line that go on up to its end: patterns, the members of a set, combined Interleaves, the causes of a post.
+use Rattle.std.specs.Prelude.{ℕ, Bool, zero, suc, List, [], ◌∷◌, ◌++◌, Result, Ok, Err, ◌||◌, not, if◌then◌else◌, codes}
 use Rattle.std.specs.Option.{option_and_then}
 use Rattle.std.specs.List.{list_any}
 use Rattle.std.specs.Str.{bytes_eq}
@@ -13,6 +13,7 @@ use Rattle.ccr_base.specs.declared.patterns.Pattern.TheVariants as patterns
 use Rattle.ccr_text.specs.Names.{meaning_of}
 use Rattle.ccr_text.specs.Fields.{Words, ◌>>=◌, unless, or_code, word, no_more, number, number_within}
 use Rattle.ccr_wiring.specs.declared.parts.DomainPart.{DomainPart}
+use Rattle.ccr_wiring.specs.Repeats.{slot_ports}
 use Rattle.ccr_wiretext.specs.Names.{Naming, as_cause}
 use Rattle.ccr_wiretext.specs.Drafts.{Declared}
 use Rattle.ccr_wiretext.specs.Fields.{port, interleave}
@@ -38,7 +39,7 @@ new_port draft found words = do
 unfoldable pub slot : Declared → List Slot → Words → Result (Slot × Words) ℕ
 slot draft found words = do
   port ← port draft words
-  apart ← unless (not (list_any (λ other. other.port == port.0) found)) 8
+  apart ← unless (not (has_number (slot_ports found) port.0)) 8
   count ← number_within 1 most_count port.1
   test ← pred count.1
   Ok (record { port = port.0; least = count.0; most = count.0; pred = test.0 }, test.1)

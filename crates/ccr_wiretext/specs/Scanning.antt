@@ -2,7 +2,7 @@
 use Rattle.std.specs.Prelude.{◌≡◌, ◌<◌, ◌+◌, ℕ, true, nat_lt, List, [], ◌∷◌, length, Some, Ok, Err, codes}
 use Rattle.ccr_base.specs.Bounds.{most_script_posts}
 use Rattle.ccr_text.specs.Words.{is_clean, number_of, words_of}
-use Rattle.ccr_text.specs.Lines.{cut, first_line}
+use Rattle.ccr_text.specs.Lines.{split_text, first_line}
 use Rattle.ccr_text.specs.declared.stop.Stop.{Stop}
 use Rattle.ccr_text.specs.declared.stop.Stop.TheVariants as stops
 use Rattle.ccr_text.specs.Codes.{code_number}
@@ -19,7 +19,7 @@ pub record IsPlainPost (text : List ℕ) (post : PlainPost) : Type 0 where
   pub spelled : number_of digits ≡ Some post.number
   pub words : words_of (first_line text) ≡ codes "post" ∷ post.port.now ∷ digits ∷ []
   pub clean : is_clean (first_line text) ≡ true
-  pub lines : cut text ≡ first_line text ∷ cut post.behind.now
+  pub lines : split_text text ≡ first_line text ∷ split_text post.behind.now
   pub shorter : length post.behind.now < length text
 
 -- a poster is open, there is room for one post more, and the name means this port
@@ -31,7 +31,7 @@ pub record MayPost (draft : Declared) (name : List ℕ) (port : ℕ) : Type 0 wh
 
 -- the text's first line is taken in, and this stands behind it
 pub record IsLineTaken (so : So) (text : List ℕ) (new : So) (behind : List ℕ) : Type 0 where
-  pub lines : cut text ≡ first_line text ∷ cut behind
+  pub lines : split_text text ≡ first_line text ∷ split_text behind
   pub shorter : length behind < length text
   pub taken : after_clean so (is_clean (first_line text)) (words_of (first_line text)) ≡ Ok new
 
@@ -39,5 +39,5 @@ pub record IsLineTaken (so : So) (text : List ℕ) (new : So) (behind : List ℕ
 abbrev pub IsLineRefused : So → List ℕ → Stop → Type 0
 IsLineRefused so text stops.Memory = Unit {0}
 IsLineRefused so text (stops.Refused code) =
-    (behind : List ℕ) × (cut text ≡ first_line text ∷ cut behind)
+    (behind : List ℕ) × (split_text text ≡ first_line text ∷ split_text behind)
     × (after_clean so (is_clean (first_line text)) (words_of (first_line text)) ≡ Err (code_number code))

@@ -1,7 +1,5 @@
 -- The canonical text of the parts: which lines it has, and which words stand on each.
-use Rattle.std.specs.Prelude.{ℕ, List, [], ◌∷◌, ◌++◌, ◌==◌, if◌then◌else◌, map, flat_map, codes, decimal, unwrap_or}
-use Rattle.std.specs.List.{slice_get}
-use Rattle.std.specs.Option.{option_map_or}
+use Rattle.std.specs.Prelude.{ℕ, List, [], ◌∷◌, ◌++◌, ◌==◌, if◌then◌else◌, map, flat_map, codes, decimal}
 use Rattle.ccr_base.specs.declared.policies.Policy.{Policy}
 use Rattle.ccr_base.specs.declared.policies.Policy.TheVariants as policies
 use Rattle.ccr_base.specs.declared.policies.Group.{Group}
@@ -26,29 +24,10 @@ use Rattle.ccr_wiring.specs.declared.parts.ArbiterPart.{ArbiterPart}
 use Rattle.ccr_wiring.specs.declared.parts.PosterPart.{PosterPart}
 use Rattle.ccr_wiring.specs.declared.parts.DomainPart.{DomainPart}
 use Rattle.ccr_wiring.specs.declared.parts.Kind.TheVariants as arbiters
+use Rattle.ccr_wiring.specs.PartNames.{port_name, queue_name, cause_name, handler_name, arbiter_name}
 use Rattle.ccr_text.specs.Spelling.{text_of}
 use Rattle.ccr_text.specs.Exact.{value_word}
 use Rattle.ccr_text.specs.Fields.{Words}
-
--- the name of a port. The others are likewise
-abbrev pub port_name : Parts → ℕ → List ℕ
-port_name parts port = unwrap_or (slice_get parts.ports port) []
-
--- the name of the queue
-abbrev pub queue_name : Parts → ℕ → List ℕ
-queue_name parts queue = option_map_or (λ (part : QueuePart). part.name) (slice_get parts.queues queue) []
-
--- the name of the cause
-abbrev pub cause_name : Parts → ℕ → List ℕ
-cause_name parts cause = option_map_or (λ (part : CausePart). part.name) (slice_get parts.causes cause) []
-
--- the name of the handler
-abbrev pub handler_name : Parts → ℕ → List ℕ
-handler_name parts handler = option_map_or (λ (part : HandlerPart). part.name) (slice_get parts.handlers handler) []
-
--- the name of the arbiter
-abbrev pub arbiter_name : Parts → ℕ → List ℕ
-arbiter_name parts arbiter = option_map_or (λ (part : ArbiterPart). part.name) (slice_get parts.arbiters arbiter) []
 
 -- the line that gives the version
 abbrev pub version_words : ℕ → Words

@@ -1,13 +1,13 @@
 //! What the lines so far declare.
 
-ghost use Rattle.std.specs.Prelude.{◌≡◌, ◌<◌, None, OnOk, IfOk, length, [], ◌∷◌, ◌++◌};
+ghost use Rattle.std.specs.Prelude.{◌≡◌, ◌<◌, None, OnOk, length, [], ◌∷◌, ◌++◌};
 ghost use Rattle.ccr_base.specs.Bounds.{most_arbiters, most_causes, most_handlers, most_ports, most_queues, most_sets};
 ghost use Rattle.ccr_text.specs.Names.{meaning_of};
 ghost use Rattle.ccr_wiretext.specs.Drafts.{nothing, with_budget, with_queue, with_port, with_set, with_cause, with_receive, with_handler, with_arbiter, with_poster, with_domain, with_action, with_branch, with_post, end_handler, end_arbiter, end_poster};
 
 use crate::named::Named;
 use crate::spotted::Spotted;
-use ccr_base::{Action, Handler, List, Name, OutOfMemory, Sent};
+use ccr_base::{Action, Handler, List, OutOfMemory, Sent, name_of};
 use ccr_text::Names;
 use ccr_wiring::{
     ArbiterPart, BranchPart, CausePart, DomainPart, HandlerPart, Kind, MAX_BUDGET, Parts,
@@ -43,12 +43,6 @@ impl Model for Draft {
     ghost Value = { Declared };
 
     ghost view = { λ draft. record { parts = draft.parts; budgeted = draft.budgeted; names = draft.names; spotted = draft.spotted; block = draft.block } };
-}
-
-pub fn copy_of(alloc: Global, name: &[u8]) -> Result<Name, OutOfMemory>
-    ensures { IfOk result (λ copy. copy ≡ name.now) }
-{
-    Ok(List::from_vec(Vec::from_slice(alloc, name)?))
 }
 
 fn push<T: Drop>(list: &mut List<T>, item: T) -> Result<(), OutOfMemory>
@@ -118,7 +112,7 @@ impl Draft {
     {
         let number = self.parts.ports.as_slice().len() as u32;
         self.names.add(name, Named::Port(number))?;
-        let name = copy_of(self.alloc, name)?;
+        let name = name_of(self.alloc, name)?;
         push(&mut self.parts.ports, name)
     }
 
@@ -150,7 +144,7 @@ impl Draft {
         let spotted = self.spotted_by(&branch)?;
         self.spotted.add_all(&spotted)?;
         self.names.add(branch.name.as_slice(), Named::Branch)?;
-        let name = copy_of(self.alloc, branch.name.as_slice())?;
+        let name = name_of(self.alloc, branch.name.as_slice())?;
         let mut branches = List::new(self.alloc);
         push(&mut branches, branch)?;
         let arbiter = ArbiterPart {
@@ -168,7 +162,7 @@ impl Draft {
     {
         let number = self.parts.handlers.as_slice().len() as u32;
         self.names.add(name, Named::Handler(number))?;
-        let name = copy_of(self.alloc, name)?;
+        let name = name_of(self.alloc, name)?;
         let actions = List::new(self.alloc);
         self.block = Block::Handler(HandlerPart {
             name,
@@ -184,7 +178,7 @@ impl Draft {
     {
         let number = self.parts.arbiters.as_slice().len() as u32;
         self.names.add(name, Named::Arbiter(number))?;
-        let name = copy_of(self.alloc, name)?;
+        let name = name_of(self.alloc, name)?;
         let branches = List::new(self.alloc);
         self.block = Block::Arbiter(ArbiterPart {
             name,
@@ -199,7 +193,7 @@ impl Draft {
         ensures { OnOk result (self.new ≡ with_poster self.old name.now) }
     {
         self.names.add(name, Named::Poster)?;
-        let name = copy_of(self.alloc, name)?;
+        let name = name_of(self.alloc, name)?;
         let posts = List::new(self.alloc);
         self.block = Block::Poster(PosterPart { name, posts });
         Ok(())

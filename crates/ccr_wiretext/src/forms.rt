@@ -9,10 +9,10 @@ ghost use Rattle.ccr_wiring.specs.Spots.{times};
 ghost use Rattle.ccr_wiretext.specs.Drafts.{script_count};
 ghost use Rattle.ccr_wiretext.specs.Forms.{budget_form, queue_form, name_form, set_form, cause_form, combine_form, crowds, branch_tail, receive_room, receive_form, branch_form, post_form, fail_form, caused_form, await_form, script_form, arbiter_end_form};
 
-use crate::draft::{Draft, copy_of};
+use crate::draft::Draft;
 use crate::spotted::Spotted;
 use crate::{fields, patterns};
-use ccr_base::{Action, CauseNo, Expr, Group, OutOfMemory, PortNo, Sent};
+use ccr_base::{Action, CauseNo, Expr, Group, OutOfMemory, PortNo, Sent, name_of};
 use ccr_text::{Code, Cursor, Stop};
 use ccr_wiring::{
     ArbiterPart, BranchPart, CausePart, DomainPart, HandlerPart, MAX_ACTIONS, MAX_ARBITERS,
@@ -106,7 +106,7 @@ impl Draft {
         let name = fields::new_name(&mut words, &self.names)?;
         let policy = words.policy(MAX_POLICY)?;
         words.no_more()?;
-        let name = copy_of(self.alloc, name)?;
+        let name = name_of(self.alloc, name)?;
         Ok(QueuePart { name, policy })
     }
 
@@ -142,7 +142,7 @@ impl Draft {
         }
         let name = fields::new_name(&mut words, &self.names)?;
         let ports = patterns::members(&mut words, self.alloc, self)?;
-        let name = copy_of(self.alloc, name)?;
+        let name = name_of(self.alloc, name)?;
         Ok(SetPart { name, ports })
     }
 
@@ -159,7 +159,7 @@ impl Draft {
         let name = fields::new_name(&mut words, &self.names)?;
         let port = fields::port(&mut words, self)?;
         words.no_more()?;
-        let name = copy_of(self.alloc, name)?;
+        let name = name_of(self.alloc, name)?;
         Ok(CausePart { name, port })
     }
 
@@ -187,7 +187,7 @@ impl Draft {
         let handler = fields::handler(&mut words, &self.names)?;
         let pattern = patterns::pattern(&mut words, self.alloc, self)?;
         let branch = BranchPart {
-            name: copy_of(self.alloc, name)?,
+            name: name_of(self.alloc, name)?,
             group,
             queue,
             handler,

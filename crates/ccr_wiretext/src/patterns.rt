@@ -1,25 +1,17 @@
-//! The places of a line that go on up to its end: patterns, the members of a set, combined Interleaves, the causes of a post.
+//! The fields of a line that go on up to its end: patterns, the members of a set, combined Interleaves, the causes of a post.
 
-ghost use Rattle.std.specs.Prelude.{◌≡◌, ◌==◌, []};
+ghost use Rattle.std.specs.Prelude.{[]};
 ghost use Rattle.ccr_text.specs.Answers.{Gives, Leaves};
 ghost use Rattle.ccr_wiretext.specs.Patterns.{pred, new_port, slot, slots, taken, gathered, pattern, members, all_members, new_member, further, combined, causes};
-ghost use Rattle.std.specs.List.{list_any};
 
 use crate::draft::Draft;
 use crate::fields;
 use crate::named::Named;
 use crate::references::is_combined;
-use ccr_base::{ArbiterNo, CauseNo, List, Pattern, PortNo, Pred, Slot};
+use ccr_base::{ArbiterNo, CauseNo, List, Pattern, PortNo, Pred, Slot, has_number};
 use ccr_text::{Code, Cursor, Names, Stop, is_text};
-use ccr_wiring::{MAX_COUNT, MAX_MEMBERS, MAX_SET_PORTS, MAX_SLOTS, has_number};
+use ccr_wiring::{MAX_COUNT, MAX_MEMBERS, MAX_SET_PORTS, MAX_SLOTS, has_slot_at};
 use std::alloc::Global;
-
-/// Whether a slot has the port.
-fn has_slot(slots: &[Slot], port: PortNo) -> bool
-    ensures { result ≡ list_any (λ slot. slot.port == port) slots.now }
-{
-    slots.iter().any(|slot| slot.port == port)
-}
 
 /// any, eq N, lt N or ge N.
 #[tactic(auto, unfolding(crate::specs::Patterns::pred))]
@@ -58,7 +50,7 @@ fn slot(words: &mut Cursor<'_>, draft: &Draft, found: &[Slot]) -> Result<Slot, S
     ensures { Leaves words.new result (slot draft.now found.now words.old) }
 {
     let port = fields::port(words, draft)?;
-    if has_slot(found, port) {
+    if has_slot_at(found, port) {
         return Err(Stop::Refused(Code::Repeat));
     }
     let count = words.number_within(1, MAX_COUNT)?;

@@ -12,8 +12,8 @@ ghost use Rattle.ccr_wiretext.specs.Names.{as_port, as_set};
 
 use crate::draft::Draft;
 use crate::named::Named;
-use ccr_base::{ArbiterNo, OutOfMemory, PortNo};
-use ccr_wiring::{BranchPart, DomainPart, add_branch_ports, has_number, no_interleave};
+use ccr_base::{ArbiterNo, OutOfMemory, PortNo, has_number};
+use ccr_wiring::{BranchPart, DomainPart, add_branch_ports, no_interleave};
 
 /// Whether a domain has the arbiter.
 pub fn is_combined(domains: &[DomainPart], arbiter: ArbiterNo) -> bool

@@ -38,7 +38,7 @@ fn post_words(text: &[u8]) -> Option<&[u8]>
 /// A word before a space, and what stands behind that.
 fn word_before(bytes: &[u8]) -> Option<(&[u8], &[u8])>
     ensures parts { IfSome result (λ found. bytes.now ≡ found.0.now ++ 32 ∷ found.1.now) }
-    ensures marks { IfSome result (λ found. list_all is_graphic found.0.now ≡ true) }
+    ensures graphic { IfSome result (λ found. list_all is_graphic found.0.now ≡ true) }
     ensures some { IfSome result (λ found. found.0.now ≢ []) }
 {
     for (index, byte) in bytes.iter().enumerate() {

@@ -9,9 +9,9 @@ use ccr_text::{Code, Stop, read_number};
 use std::alloc::Global;
 
 /// What stands before the first comma, and what stands behind it.
-fn cut_piece(word: &[u8]) -> (&[u8], Option<&[u8]>)
+fn split_piece(word: &[u8]) -> (&[u8], Option<&[u8]>)
     ensures whole { IfNone result.1 (pieces word.now ≡ result.0.now ∷ []) }
-    ensures cut { IfSome result.1 (λ after. pieces word.now ≡ result.0.now ∷ pieces after.now) }
+    ensures parts { IfSome result.1 (λ after. pieces word.now ≡ result.0.now ∷ pieces after.now) }
     ensures shorter { IfSome result.1 (λ after. length after.now < length word.now) }
 {
     for (index, byte) in word.iter().enumerate() {
@@ -30,7 +30,7 @@ fn numbers_in(alloc: Global, word: &[u8]) -> Result<Vec<u64>, Stop>
     let mut numbers = Vec::new(alloc);
     let mut rest = Some(word);
     'pieces: while let Some(bytes) = rest {
-        let (piece, after) = cut_piece(bytes);
+        let (piece, after) = split_piece(bytes);
         let Some(number) = read_number(piece) else {
             return Err(Stop::Refused(Code::Number));
         };

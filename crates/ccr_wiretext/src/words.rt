@@ -1,65 +1,22 @@
 //! The words of the canonical lines.
 
 ghost use Rattle.std.specs.Prelude.{◌≡◌, [], ◌∷◌, ◌++◌, OnOk, IfOk, map, flat_map, decimal};
-ghost use Rattle.ccr_wiretext.specs.Spelling.{port_name, queue_name, cause_name, handler_name, arbiter_name, version_words, combine_words, budget_words, policy_words, queue_words, set_words, cause_words, expr_words, action_words, end_words, pred_words, slot_words, pattern_words, group_words, branch_words, post_words};
+ghost use Rattle.ccr_wiring.specs.PartNames.{port_name, arbiter_name, cause_name};
+ghost use Rattle.ccr_wiretext.specs.Spelling.{version_words, combine_words, budget_words, policy_words, queue_words, set_words, cause_words, expr_words, action_words, end_words, pred_words, slot_words, pattern_words, group_words, branch_words, post_words};
 ghost use Rattle.ccr_text.specs.Exact.{value_word};
 ghost use Rattle.std.specs.List.{All};
 ghost use Rattle.ccr_wiretext.specs.Values.{IsNumeral, IsValue, IsExprValued, IsActionValued, IsPredValued, IsPatternValued};
 
-use crate::draft::copy_of;
 use ccr_base::{
-    Action, ArbiterNo, CauseNo, Expr, Group, HandlerNo, Name, OutOfMemory, Pattern, Policy, PortNo,
-    Pred, QueueNo, Slot, Value,
+    Action, ArbiterNo, CauseNo, Expr, Group, Name, OutOfMemory, Pattern, Policy, PortNo, Pred,
+    Slot, Value, name_of,
 };
-use ccr_wiring::{BranchPart, CausePart, DomainPart, Parts, QueuePart, ScriptPost, SetPart};
+use ccr_wiring::{
+    BranchPart, CausePart, DomainPart, Parts, QueuePart, ScriptPost, SetPart, arbiter_name,
+    cause_name, handler_name, port_name, queue_name,
+};
 use std::alloc::Global;
 use std::marker::Model;
-
-/// The name of the port. The others are likewise.
-pub fn port_name(parts: &Parts, port: PortNo) -> &[u8]
-    ensures { result.now ≡ port_name parts.now port }
-{
-    match parts.ports.as_slice().get(port as usize) {
-        Some(name) => name.as_slice(),
-        None => &[],
-    }
-}
-
-pub fn queue_name(parts: &Parts, queue: QueueNo) -> &[u8]
-    ensures { result.now ≡ queue_name parts.now queue }
-{
-    match parts.queues.as_slice().get(queue as usize) {
-        Some(part) => part.name.as_slice(),
-        None => &[],
-    }
-}
-
-pub fn cause_name(parts: &Parts, cause: CauseNo) -> &[u8]
-    ensures { result.now ≡ cause_name parts.now cause }
-{
-    match parts.causes.as_slice().get(cause as usize) {
-        Some(part) => part.name.as_slice(),
-        None => &[],
-    }
-}
-
-pub fn handler_name(parts: &Parts, handler: HandlerNo) -> &[u8]
-    ensures { result.now ≡ handler_name parts.now handler }
-{
-    match parts.handlers.as_slice().get(handler as usize) {
-        Some(part) => part.name.as_slice(),
-        None => &[],
-    }
-}
-
-pub fn arbiter_name(parts: &Parts, arbiter: ArbiterNo) -> &[u8]
-    ensures { result.now ≡ arbiter_name parts.now arbiter }
-{
-    match parts.arbiters.as_slice().get(arbiter as usize) {
-        Some(part) => part.name.as_slice(),
-        None => &[],
-    }
-}
 
 /// Adds the digits of a number.
 fn put_digits(alloc: Global, out: &mut Vec<u8>, number: u64) -> Result<(), OutOfMemory>
@@ -146,7 +103,7 @@ impl LineWords {
     fn word(&mut self, word: &[u8]) -> Result<(), OutOfMemory>
         ensures { OnOk result (self.new ≡ self.old ++ word.now ∷ []) }
     {
-        let word = copy_of(self.alloc, word)?;
+        let word = name_of(self.alloc, word)?;
         self.words.push(word)?;
         Ok(())
     }
@@ -197,11 +154,11 @@ impl LineWords {
     {
         match expr {
             Expr::Number(value) => self.value(&value),
-            Expr::Part(message, place) => {
+            Expr::Part(message, index) => {
                 self.keyed("part", u64::from(message))?;
-                self.number(u64::from(place))
+                self.number(u64::from(index))
             }
-            Expr::Arg(place) => self.keyed("arg", u64::from(place)),
+            Expr::Arg(message) => self.keyed("arg", u64::from(message)),
             Expr::Sum => self.text("sum"),
             Expr::Count => self.text("count"),
         }

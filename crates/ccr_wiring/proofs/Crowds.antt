@@ -11,7 +11,7 @@ use Rattle.ccr_wiring.proofs.Lists.{any_at, any_none}
 pub times_append : (port : ℕ) (xs ys : List ℕ) → times port (xs ++ ys) ≡ times port xs + times port ys
 times_append port xs ys = sum_by-append _ xs ys
 
--- the port at a place stands once more than before it
+-- the port at an index stands once more than before it
 times_at : (ports : List ℕ) (i : ℕ) → i < length ports → times (get_or ports i 0) (take i ports) + 1 ≤ times (get_or ports i 0) ports
 times_at ports i below =
     let port = get_or ports i 0 in

@@ -18,12 +18,12 @@ use Rattle.ccr_wiring.specs.References.{no_interleave, domain_is_dangling, has_d
 use Rattle.ccr_wiring.specs.Wirings.{Placement, placement, placements_from, in_domain}
 use Rattle.ccr_wiring.proofs.Lists.{neither}
 
--- the arbiter of a placement, by its place
+-- the arbiter of a placement, by its index
 pub record ArbiterOf (first : ℕ) (arbiters : List ArbiterPart) (s : Placement) : Type 0 where
-  pub place : ℕ
+  pub index : ℕ
   pub arbiter : ArbiterPart
-  pub number : s.domain ≡ first + place
-  pub at : slice_get arbiters place ≡ Some arbiter
+  pub number : s.domain ≡ first + index
+  pub at : slice_get arbiters index ≡ Some arbiter
   pub kind : s.kind ≡ arbiter.kind
 
 here_or_later : (number : ℕ) (kind : Kind) (branches : List BranchPart) (rest : List Placement) (branch : ℕ) (s : Placement)
@@ -43,10 +43,10 @@ placement_of_arbiter first (arbiter ∷ arbiters) branch s at = of_either (here_
   where
     of_either : ((s.domain ≡ first) × (s.kind ≡ arbiter.kind)) ⊎ ((later : ℕ) × (slice_get (placements_from (first + 1) arbiters) later ≡ Some s))
         → ((later : ℕ) → slice_get (placements_from (first + 1) arbiters) later ≡ Some s → ArbiterOf (first + 1) arbiters s) → ArbiterOf first (arbiter ∷ arbiters) s
-    of_either (inl here) others = record { place = 0; arbiter = arbiter; number = omega (arith, here.0); at = refl; kind = here.1 }
+    of_either (inl here) others = record { index = 0; arbiter = arbiter; number = omega (arith, here.0); at = refl; kind = here.1 }
     of_either (inr later) others =
         let p = others later.0 later.1 in
-        record { place = suc p.place; arbiter = p.arbiter; number = omega (arith, p.number); at = p.at; kind = p.kind }
+        record { index = suc p.index; arbiter = p.arbiter; number = omega (arith, p.number); at = p.at; kind = p.kind }
 
 pub no_less : (p : ℕ → Bool) (a b : ℕ) → p a ≡ false → p b ≡ false → p (min a b) ≡ false
 no_less p a b fails other = by_test (nat_le a b) refl
@@ -118,7 +118,7 @@ kept_domain parts branch s none at = of_own (slice_get (placements_from 0 parts.
     of_own None found is = absurd cc
     of_own (Some own) found is =
         let p = placement_of_arbiter 0 parts.arbiters branch own found in
-        let number : own.domain ≡ p.place = omega (arith, p.number) in
+        let number : own.domain ≡ p.index = omega (arith, p.number) in
         let there : slice_get parts.arbiters own.domain ≡ Some p.arbiter = ap (slice_get parts.arbiters) number ∙ p.at in
         let kept : IsSomeAnd (slice_get parts.arbiters (domain_of parts.domains own.domain)) (λ (arbiter : ArbiterPart). arbiter.kind ≡ p.arbiter.kind) = domain_kind parts own.domain p.arbiter parts.domains none there in
         let same : in_domain parts.domains own ≡ s = cc in

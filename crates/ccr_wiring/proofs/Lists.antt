@@ -16,7 +16,7 @@ pub any_none : {X : Type 0} (p : X → Bool) (xs : List X) → ((x : X) → p x 
 any_none p [] none = refl
 any_none p (x ∷ xs) none = ap (λ b. b || list_any p xs) (none x) ∙ any_none p xs none
 
--- where none passes it, the element at a place doesn't
+-- where none passes it, the element at an index doesn't
 pub none_at : {X : Type 0} (p : X → Bool) (xs : List X) (i : ℕ) (x : X) → list_any p xs ≡ false → slice_get xs i ≡ Some x → p x ≡ false
 none_at p [] i x none at = absurd cc
 none_at p (y ∷ xs) zero x none at = let e : y ≡ x = cc in ap p (sym e) ∙ (neither (p y) (list_any p xs) none).0

@@ -1,5 +1,5 @@
 -- Lists of spots, one for each number, and what they gain.
-use Rattle.std.proofs.Common.{◌≡◌, ◌∙◌, ℕ, zero, suc, ◌+◌, ◌<◌, ◌≤◌, Bool, true, false, List, [], ◌∷◌, ◌++◌, length, take, Option, None, Some, refl, ap, sym, arith, length-set, append_assoc}
+use Rattle.std.proofs.Common.{◌≡◌, ◌∙◌, ℕ, zero, suc, ◌+◌, ◌<◌, ◌≤◌, Bool, true, false, List, [], ◌∷◌, ◌++◌, length, take, Option, None, Some, refl, ap, sym, arith, length-set, append_assoc, append-nil}
 use Rattle.std.specs.Prelude.{◌==◌, ◌||◌, ◌&&◌, not, if◌then◌else◌, slice_set}
 use Rattle.std.specs.List.{slice_get}
 use Rattle.std.proofs.Math.ListN.{get_or}
@@ -20,10 +20,6 @@ set_at (other ∷ lists) zero (suc n) list low = grind (arith, nat_tests)
 set_at (other ∷ lists) (suc k) zero list low = grind (arith, nat_tests)
 set_at (other ∷ lists) (suc k) (suc n) list low = set_at lists k n list (omega (arith, low)) ∙ grind (arith, nat_tests)
 
-nothing_more : (list : List Spot) → list ++ [] ≡ list
-nothing_more [] = refl
-nothing_more (spot ∷ list) = ap (λ l. spot ∷ l) (nothing_more list)
-
 -- the spot at the end of the list of one number
 pub noted_one : (lists : List (List Spot)) (k : ℕ) (spot : Spot) (d now : List Spot) → k < length lists → now ≡ get_or lists k d ++ spot ∷ [] → IsNoted (λ n. k == n) spot lists (slice_set lists k now)
 noted_one lists k spot d now within more = record {
@@ -40,13 +36,13 @@ noted_one lists k spot d now within more = record {
         grown : Option (List Spot) → Option (List Spot)
         grown None = None
         grown (Some l) = Some (l ++ spot ∷ [])
-    of_test n list there false differs = there ∙ ap Some (sym (nothing_more list))
+    of_test n list there false differs = there ∙ ap Some (sym (append-nil list))
 
 -- into no list
 pub noted_none : (test : ℕ → Bool) (spot : Spot) (lists : List (List Spot)) → ((n : ℕ) → n < length lists → test n ≡ false) → IsNoted test spot lists lists
 noted_none test spot lists never = record {
   size = refl;
-  each = λ n list there. there ∙ ap Some (sym (nothing_more list) ∙ ap (λ b. list ++ (if b then spot ∷ [] else [])) (sym (never n (within lists n list there))));
+  each = λ n list there. there ∙ ap Some (sym (append-nil list) ∙ ap (λ b. list ++ (if b then spot ∷ [] else [])) (sym (never n (within lists n list there))));
 }
   where
     within : (lists : List (List Spot)) (n : ℕ) (list : List Spot) → slice_get lists n ≡ Some list → n < length lists

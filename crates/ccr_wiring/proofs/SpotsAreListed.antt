@@ -55,7 +55,7 @@ branch_spots-append parts number (x ∷ xs) ys =
 pub all_branches-cons : (arbiter : ArbiterPart) (arbiters : List ArbiterPart) → all_branches (arbiter ∷ arbiters) ≡ arbiter.branches ++ all_branches arbiters
 all_branches-cons arbiter arbiters = flat_map-cons (λ (a : ArbiterPart). a.branches) arbiter arbiters
 
--- the branches from a place on
+-- the branches from an index on
 all_drop_suc : (arbiters : List ArbiterPart) (i : ℕ) (arbiter : ArbiterPart) → i < length arbiters → arbiter ≡ get_or arbiters i arbiter → all_branches (drop i arbiters) ≡ arbiter.branches ++ all_branches (drop (suc i) arbiters)
 all_drop_suc [] i arbiter below is = absurd (omega arith)
 all_drop_suc (first ∷ arbiters) zero arbiter below is = all_branches-cons first arbiters ∙ ap (λ (a : ArbiterPart). a.branches ++ all_branches arbiters) (sym is)

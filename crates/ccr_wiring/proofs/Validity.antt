@@ -1,8 +1,9 @@
 -- What follows where a condition doesn't stand.
-use Rattle.std.proofs.Common.{◌≡◌, ℕ, ◌≤◌, Bool, true, false, length, sum, map, Option, Some, None, refl, arith}
+use Rattle.std.proofs.Common.{◌≡◌, ℕ, ◌≤◌, Bool, false, length, sum, map, Option, Some, None, refl, arith}
 use Rattle.std.specs.Prelude.{◌||◌, nat_lt, if◌then◌else◌}
 use Rattle.std.specs.List.{list_any, slice_get}
 use Rattle.std.proofs.lemmas.Bool.Decides.{nat_tests}
+use Rattle.ccr_base.proofs.Options.{none_cond}
 use Rattle.ccr_wiring.specs.declared.parts.ArbiterPart.{ArbiterPart}
 use Rattle.ccr_wiring.specs.declared.parts.HandlerPart.{HandlerPart}
 use Rattle.ccr_wiring.specs.declared.parts.Parts.{Parts}
@@ -77,6 +78,7 @@ actions_at parts handler (Some part) at none = rw at (few_of part (none_at handl
 pub few_actions : (parts : Parts) (handler : ℕ) → has_outside parts ≡ false → length (actions_of parts handler) ≤ 16
 few_actions parts handler none = actions_at parts handler (slice_get parts.handlers handler) refl (within parts none).handlers
 
+-- no condition of a code stands
 pub record NoCodes (parts : Parts) : Type 0 where
   pub version : has_strange_version parts ≡ false
   pub groups : has_misgrouped parts ≡ false
@@ -89,25 +91,20 @@ pub record NoCodes (parts : Parts) : Type 0 where
   pub spots : has_crowded_port parts ≡ false
   pub forms : has_malformed_name parts ≡ false
 
--- where no code is answered, the test fails and no later code is
-not_first : (b : Bool) (code : ℕ) (others : Option ℕ) → (if b then Some code else others) ≡ None → (b ≡ false) × (others ≡ None)
-not_first true code others is = absurd cc
-not_first false code others is = (refl, is)
-
 -- where no code stands, no condition does
 pub no_codes : (parts : Parts) → code_of parts ≡ None → NoCodes parts
 unfolding code_of
 no_codes parts valid =
-    let version = not_first (has_strange_version parts) 2 _ valid in
-    let groups = not_first (has_misgrouped parts) 3 _ version.1 in
-    let newer = not_first (has_newer parts) 5 _ groups.1 in
-    let names = not_first (has_repeated_name parts) 6 _ newer.1 in
-    let references = not_first (has_dangling parts) 7 _ names.1 in
-    let repeats = not_first (has_repeat parts) 8 _ references.1 in
-    let limits = not_first (has_outside parts) 10 _ repeats.1 in
-    let branches = not_first (has_branchless parts) 11 _ limits.1 in
-    let spots = not_first (has_crowded_port parts) 12 _ branches.1 in
-    let forms = not_first (has_malformed_name parts) 14 _ spots.1 in
+    let version = none_cond (has_strange_version parts) 2 _ valid in
+    let groups = none_cond (has_misgrouped parts) 3 _ version.1 in
+    let newer = none_cond (has_newer parts) 5 _ groups.1 in
+    let names = none_cond (has_repeated_name parts) 6 _ newer.1 in
+    let references = none_cond (has_dangling parts) 7 _ names.1 in
+    let repeats = none_cond (has_repeat parts) 8 _ references.1 in
+    let limits = none_cond (has_outside parts) 10 _ repeats.1 in
+    let branches = none_cond (has_branchless parts) 11 _ limits.1 in
+    let spots = none_cond (has_crowded_port parts) 12 _ branches.1 in
+    let forms = none_cond (has_malformed_name parts) 14 _ spots.1 in
     record { version = version.0; groups = groups.0; newer = newer.0; names = names.0; references = references.0; repeats = repeats.0; limits = limits.0; branches = branches.0; spots = spots.0; forms = forms.0 }
 
 -- the code of the first test that is met, where these are all

@@ -9,6 +9,7 @@ pub mod Versions
 pub mod Compact
 pub mod Spots
 pub mod SpotWords
+pub mod PartNames
 pub mod Takers
 pub mod Actors
 pub mod Placements

@@ -30,7 +30,7 @@ policy_is_outside Unbounded = false
 policy_is_outside (Discard n) = is_outside 1 most_policy n
 policy_is_outside (Throttle n) = is_outside 1 most_policy n
 
--- the number of a message is 0 to 65,535, the place of a number in its value 0 to 7
+-- the number of a message is 0 to 65,535, the index of a number in its value 0 to 7
 abbrev pub expr_is_outside : Expr → Bool
 expr_is_outside (Arg k) = is_outside 0 most_arg k
 expr_is_outside (Part k index) = is_outside 0 most_arg k || is_outside 0 last_index index

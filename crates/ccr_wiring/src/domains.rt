@@ -4,8 +4,7 @@ ghost use Rattle.std.specs.Prelude.{◌≡◌};
 ghost use Rattle.ccr_wiring.specs.Domains.{least_with, domain_of};
 
 use crate::DomainPart;
-use crate::repeats::has_number;
-use ccr_base::ArbiterNo;
+use ccr_base::{ArbiterNo, has_number};
 
 /// The least of the number and these.
 fn least_with(first: ArbiterNo, numbers: &[ArbiterNo]) -> ArbiterNo

@@ -7,6 +7,7 @@ mod groups;
 mod laws;
 mod limits;
 mod names;
+mod part_names;
 mod parts;
 mod placements;
 mod references;
@@ -26,13 +27,14 @@ pub use limits::{
     MAX_DOMAINS, MAX_HANDLERS, MAX_INDEX, MAX_MEMBERS, MAX_POLICY, MAX_PORTS, MAX_POSTERS,
     MAX_QUEUES, MAX_SCRIPT_POSTS, MAX_SET_PORTS, MAX_SETS, MAX_SLOTS, MAX_SPOTS,
 };
+pub use part_names::{arbiter_name, cause_name, handler_name, port_name, queue_name};
 pub use parts::{
     ArbiterPart, BranchPart, CausePart, DomainPart, HandlerPart, Kind, Parts, PosterPart,
     QueuePart, SetPart,
 };
 pub use placements::PlacementOf;
 pub use references::{is_interleave, no_interleave};
-pub use repeats::{are_apart, has_number, has_slot_at};
+pub use repeats::{are_apart, has_slot_at};
 pub use script_posts::ScriptPost;
 pub use spot_names::{branch_names, name_at};
 pub use spot_words::{put_spot_word, spot_text};

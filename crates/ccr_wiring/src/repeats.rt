@@ -6,15 +6,8 @@ ghost use Rattle.ccr_wiring.specs.Repeats.{are_slots_apart, slot_ports, names_po
 
 use crate::script_posts::ScriptPost;
 use crate::{ArbiterPart, BranchPart, DomainPart, Parts, PosterPart, SetPart};
-use ccr_base::{ArbiterNo, OutOfMemory, Pattern, PortNo, Slot};
+use ccr_base::{ArbiterNo, OutOfMemory, Pattern, PortNo, Slot, has_number};
 use std::alloc::Global;
-
-/// Whether the number is among them.
-pub fn has_number(numbers: &[u32], number: u32) -> bool
-    ensures { result ≡ has_number numbers.now number }
-{
-    numbers.contains(&number)
-}
 
 /// Whether no number stands twice.
 pub fn are_apart(numbers: &[u32]) -> bool

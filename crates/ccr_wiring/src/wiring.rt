@@ -13,6 +13,7 @@ ghost use Rattle.ccr_wiring.specs.Domains.{domain_of};
 use crate::codes::code_of;
 use crate::domains::domain_of;
 use crate::placements::{Position, all_positions, placement_of};
+use crate::references::no_interleave;
 use crate::spots::{actions_of, all_spots};
 use crate::takers::{Takers, all_takers, list_of, site_port};
 use crate::{Kind, Parts, PlacementOf, Unfit};
@@ -114,10 +115,7 @@ impl Wiring {
     pub fn is_interleave_number(&self, arbiter: ArbiterNo) -> bool
         ensures { result ≡ is_interleave_number self.now arbiter }
     {
-        match self.parts().arbiters.as_slice().get(arbiter as usize) {
-            Some(part) => matches!(part.kind, Kind::Interleave),
-            None => false,
-        }
+        !no_interleave(self.parts(), arbiter)
     }
 
     /// The number of the arbiter's domain: the least of the Interleaves that are combined with it; its own where none is.

@@ -1,5 +1,5 @@
 -- The rows that clap keeps, as the list of what was given.
-use Rattle.std.proofs.Common.{◌≡◌, ◌∙◌, Bool, true, false, cond, codes, refl, sym, ap, List, [], ◌∷◌, ◌++◌, ◌||◌, map, Some, None}
+use Rattle.std.proofs.Common.{◌≡◌, ◌∙◌, Bool, true, false, cond, codes, refl, sym, ap, List, [], ◌∷◌, ◌++◌, ◌||◌, map, Some, None, append-nil}
 use Rattle.std.proofs.lemmas.List.{map-append}
 use Rattle.std.specs.Str.{bytes_eq}
 use Rattle.clap.specs.Walk.{Row, Text, at_row, has_row, used, reading_by, with_values, without, more_values}
@@ -36,16 +36,12 @@ at_end-new id change missing (r ∷ rows) none = go (bytes_eq r.id id) refl (at_
     go true e more = let bad : true ≡ false = rw e at none in absurd (cc)
     go false e more = let rest : has_row id rows ≡ false = rw e at none in rw e (ap (λ rs. r ∷ rs) (more rest))
 
-append-nil-row : (rows : List Row) → rows ++ [] ≡ rows
-append-nil-row [] = refl
-append-nil-row (r ∷ rows) = ap (λ rs. r ∷ rs) (append-nil-row rows)
-
 pub put_row : (part : Part) (source : ValueSource) (text : Text) (rows : List Row) → has_row (name_of part) rows ≡ false
     → with_values (name_of part) (reading_by (rule_for part)) source (text ∷ []) rows ≡ rows ++ row source part text ∷ []
 put_row part source text rows none = at_end-new (name_of part) (more_values source (text ∷ [])) _ rows none
 
 pub without-new : (part : Part) (rows : List Row) → has_row (name_of part) rows ≡ false → without (name_of part) rows ≡ rows
-without-new part rows none = at_end-new (name_of part) (λ _. []) [] rows none ∙ append-nil-row rows
+without-new part rows none = at_end-new (name_of part) (λ _. []) [] rows none ∙ append-nil rows
 
 -- a use with one value
 abbrev pub put : Part → Text → List Row → List Row

@@ -7,11 +7,11 @@ use Rattle.std.specs.Char.{is_ascii_digit}
 use Rattle.std.specs.Str.{bytes_eq, is_utf8}
 use Rattle.std.specs.Str.Parse.{digits_value}
 use Rattle.std.proofs.lemmas.Bool.Decides.{nat_tests}
-use Rattle.std.proofs.lemmas.Slice.Eq.{bytes_eq-Decides}
 use Rattle.std.proofs.lemmas.Str.{IsUtf8-from_ascii, is_utf8-from_IsUtf8}
 use Rattle.std.proofs.lemmas.Str.Ascii.{IsAscii-from_all}
 use Rattle.std.proofs.lemmas.List.Sums.{AllPass-from_list_all}
 use Rattle.clap.specs.Lexer.{has_byte, name_and_value, long_of, long_of_rest, short_of, short_of_rest, strip_byte}
+use Rattle.ccr_base.proofs.Texts.{same_word}
 use Rattle.ccr_words.specs.Parts.{at_end, option_turn, Given, Part, State, Text, given_so_far, has, json, left_over, name_of, new_option_turn, option_of, schedule, size, takes_value, text_of, with_part, word, workers}
 use Rattle.ccr_words.specs.Table.{is_number, load_of, meaning, plain_request, request_of, number, number_or, workers_alone}
 use Rattle.ccr_words.specs.AskedFor.{begins_with, given_after, asked_for, turn, next_turn, plain_turn}
@@ -160,22 +160,22 @@ text_new p u (x ∷ g) new = go (bytes_eq (name_of x.0) (name_of p)) new (text_n
 abbrev ascii : Text → Bool
 ascii text = list_all (λ b. nat_lt b 128) text
 
-cut_ascii : (xs : Text) → ascii (before_first (λ x. x == 61) xs) ≡ true → (has_byte 61 xs ≡ true → ascii (after_first (λ x. x == 61) xs) ≡ true) → ascii xs ≡ true
-cut_ascii [] front back = refl
-cut_ascii (x ∷ xs) front back = go (x == 61) refl front back (cut_ascii xs)
+split_ascii : (xs : Text) → ascii (before_first (λ x. x == 61) xs) ≡ true → (has_byte 61 xs ≡ true → ascii (after_first (λ x. x == 61) xs) ≡ true) → ascii xs ≡ true
+split_ascii [] front back = refl
+split_ascii (x ∷ xs) front back = go (x == 61) refl front back (split_ascii xs)
   where
-    place : ℕ
-    place = position_or_len (λ y. y == 61) xs
+    index : ℕ
+    index = position_or_len (λ y. y == 61) xs
 
-    go : (b : Bool) → (x == 61) ≡ b → ascii (take (cond (not b) (1 + place) 0) (x ∷ xs)) ≡ true → ((b || has_byte 61 xs) ≡ true → ascii (drop (cond (not b) (1 + place) 0 + 1) (x ∷ xs)) ≡ true)
-        → (ascii (take place xs) ≡ true → (has_byte 61 xs ≡ true → ascii (drop (place + 1) xs) ≡ true) → ascii xs ≡ true) → (nat_lt x 128 && ascii xs) ≡ true
+    go : (b : Bool) → (x == 61) ≡ b → ascii (take (cond (not b) (1 + index) 0) (x ∷ xs)) ≡ true → ((b || has_byte 61 xs) ≡ true → ascii (drop (cond (not b) (1 + index) 0 + 1) (x ∷ xs)) ≡ true)
+        → (ascii (take index xs) ≡ true → (has_byte 61 xs ≡ true → ascii (drop (index + 1) xs) ≡ true) → ascii xs ≡ true) → (nat_lt x 128 && ascii xs) ≡ true
     go true e front back more =
         let small : nat_lt x 128 ≡ true = grind (arith, nat_tests) in
         rw small (back refl)
     go false e front back more =
-        let step : 1 + place ≡ suc place = omega arith in
-        let both = and_parts (nat_lt x 128) (ascii (take place xs)) (subst (λ (n : ℕ). ascii (take n (x ∷ xs)) ≡ true) step front) in
-        let next : 1 + place + 1 ≡ suc (place + 1) = omega arith in
+        let step : 1 + index ≡ suc index = omega arith in
+        let both = and_parts (nat_lt x 128) (ascii (take index xs)) (subst (λ (n : ℕ). ascii (take n (x ∷ xs)) ≡ true) step front) in
+        let next : 1 + index + 1 ≡ suc (index + 1) = omega arith in
         rw both.0 (more both.1 (λ h. subst (λ (n : ℕ). ascii (drop n (x ∷ xs)) ≡ true) next (back h)))
 
 digits_ascii : (text : Text) → list_all is_ascii_digit text ≡ true → ascii text ≡ true
@@ -185,9 +185,6 @@ digits_ascii (x ∷ xs) all =
     let rest = digits_ascii xs both.1 in
     let small : nat_lt x 128 ≡ true = grind (arith, nat_tests) in
     rw small rest
-
-same_text : (a b : Text) → bytes_eq a b ≡ true → a ≡ b
-same_text a b e = (bytes_eq-Decides a b).0 e
 
 ascii_utf8 : (text : Text) → ascii text ≡ true → is_utf8 text ≡ true
 ascii_utf8 text all = is_utf8-from_IsUtf8 text (IsUtf8-from_ascii text (IsAscii-from_all text (λ k d lt. let small = AllPass-from_list_all (λ b. nat_lt b 128) text all k d lt in grind (arith, nat_tests, small))))
@@ -199,7 +196,7 @@ word_ascii text (w ∷ words) all is =
     go (bytes_eq text w) refl is parts.0 (word_ascii text words parts.1)
   where
     go : (b : Bool) → bytes_eq text w ≡ b → (b || list_any (bytes_eq text) words) ≡ true → ascii w ≡ true → (list_any (bytes_eq text) words ≡ true → ascii text ≡ true) → ascii text ≡ true
-    go true e any first rest = ap ascii (same_text text w e) ∙ first
+    go true e any first rest = ap ascii (same_word text w e) ∙ first
     go false e any first rest = rest any
 
 fine_ascii : (p : Part) (text : Text) → takes_value p ≡ true → fine p text ≡ true → ascii text ≡ true
@@ -360,10 +357,10 @@ option_name name q is = go (bytes_eq (codes "workers") name) (bytes_eq (codes "s
   where
     go : (a b c d : Bool) → bytes_eq (codes "workers") name ≡ a → bytes_eq (codes "size") name ≡ b → bytes_eq (codes "schedule") name ≡ c → bytes_eq (codes "json") name ≡ d
         → cond a (Some workers) (cond b (Some size) (cond c (Some schedule) (cond d (Some json) None))) ≡ Some q → ascii name ≡ true
-    go true b c d ea eb ec ed e = ap ascii (sym (same_text (codes "workers") name ea))
-    go false true c d ea eb ec ed e = ap ascii (sym (same_text (codes "size") name eb))
-    go false false true d ea eb ec ed e = ap ascii (sym (same_text (codes "schedule") name ec))
-    go false false false true ea eb ec ed e = ap ascii (sym (same_text (codes "json") name ed))
+    go true b c d ea eb ec ed e = ap ascii (sym (same_word (codes "workers") name ea))
+    go false true c d ea eb ec ed e = ap ascii (sym (same_word (codes "size") name eb))
+    go false false true d ea eb ec ed e = ap ascii (sym (same_word (codes "schedule") name ec))
+    go false false false true ea eb ec ed e = ap ascii (sym (same_word (codes "json") name ed))
     go false false false false ea eb ec ed e = absurd (cc)
 
 -- the parts of a long word
@@ -371,7 +368,7 @@ part_ascii : (rest : Text) (n : Text × Option Text) → long_of_rest rest ≡ S
 part_ascii [] n is front back = refl
 part_ascii (x ∷ xs) n is front back =
     let same : name_and_value (x ∷ xs) ≡ n = cc in
-    cut_ascii (x ∷ xs) (ap (λ (m : Text × Option Text). ascii m.0) same ∙ front)
+    split_ascii (x ∷ xs) (ap (λ (m : Text × Option Text). ascii m.0) same ∙ front)
     (λ h. back (after_first (λ y. y == 61) (x ∷ xs)) (ap (λ (m : Text × Option Text). m.1) (sym same) ∙ ap (λ b. cond b (Some (after_first (λ y. y == 61) (x ∷ xs))) None) h))
 
 long_ascii : (w : Text) (n : Text × Option Text) → long_of w ≡ Some n → ascii n.0 ≡ true → ((u : Text) → n.1 ≡ Some u → ascii u ≡ true) → ascii w ≡ true
@@ -417,7 +414,7 @@ module _ (w : Text) (bad : is_utf8 w ≡ false) (s : State) where
   broken_plain None is = bad_cond (begins_with 45 w) _ (λ _. bad_left s w (not_fine word w w refl bad (λ all. all)))
 
   broken_word : (b : Bool) → bytes_eq w (codes "--") ≡ b → MayBad (cond b (Some (record s { ended = true })) (plain_turn s w (long_of w)))
-  broken_word true e = absurd (no_ascii w bad (ap ascii (same_text w (codes "--") e)))
+  broken_word true e = absurd (no_ascii w bad (ap ascii (same_word w (codes "--") e)))
   broken_word false e = broken_plain (long_of w) refl
 
   broken_next : (o : Option Part) → IsOpen o s.given false → MayBad (next_turn s o w)

@@ -464,11 +464,11 @@ module _ (given : Given) (part : Part) (takes : takes_value part ≡ true) (new 
   abbrev waiting_held : Held
   waiting_held = held (rows_of_given given) (Some (name_of part, []))
 
-  abbrev place : ℕ
-  place = position_of (has word given)
+  abbrev index : ℕ
+  index = position_of (has word given)
 
   abbrev waiting_now : Walk
-  waiting_now = at (rows_of_given given) (Some (name_of part, [])) (option (name_of part)) place false
+  waiting_now = at (rows_of_given given) (Some (name_of part, [])) (option (name_of part)) index false
 
   pub waiting_bad : clean (settle_fault rules false waiting_held) ≡ false
   waiting_bad = ap clean (settle_part part [] (rows_of_given given)) ∙ use_none part (rows_of_given given) takes
@@ -486,14 +486,14 @@ module _ (given : Given) (part : Part) (takes : takes_value part ≡ true) (new 
           same = settled_part part (text ∷ []) (rows_of_given given) ∙ used-new part text given takes new;
           sound = ap clean (settle_part part (text ∷ []) (rows_of_given given)) ∙ use_clean part text (rows_of_given given) takes ∙ ap not (has-rows part given ∙ new);
         };
-        walk = ap (λ (x : Held × Waiting). at_held x.0 x.1 place) found
+        walk = ap (λ (x : Held × Waiting). at_held x.0 x.1 index) found
             ∙ ap (λ b. at (rows_of_given given) (Some (name_of part, text ∷ [])) idle (position_of b) false) (sym (has_word-kept part text given other));
         state = refl;
       }
 
   value_short_follows : (text : Text) → IsBundle text → (q : Option Text) → short_of text ≡ q
       → Follows (or_else (option_map_or (λ flags. bundle_fault rules false flags waiting_held) q [])
-      (step_fault top place (short_or_plain rules (option (name_of part)) text q waiting_held).0 (short_or_plain rules (option (name_of part)) text q waiting_held).1))
+      (step_fault top index (short_or_plain rules (option (name_of part)) text q waiting_held).0 (short_or_plain rules (option (name_of part)) text q waiting_held).1))
       (after_step rules text waiting_now (short_or_plain rules (option (name_of part)) text q waiting_held).0 (short_or_plain rules (option (name_of part)) text q waiting_held).1)
       (cond (is_some q) None (Some (after_value text)))
   value_short_follows text good (Some flags) e = inl (unclean-first _ _ (bundle_unclean flags (good flags e).0 waiting_held (good flags e).1 refl))
@@ -501,7 +501,7 @@ module _ (given : Given) (part : Part) (takes : takes_value part ≡ true) (new 
 
   value_flag_follows : (text : Text) → IsBundle text → (o : Option (Text × Option Text))
       → Follows (or_else (flag_word_fault rules false o text waiting_held)
-      (step_fault top place (long_or_other rules (option (name_of part)) text o waiting_held).0 (long_or_other rules (option (name_of part)) text o waiting_held).1))
+      (step_fault top index (long_or_other rules (option (name_of part)) text o waiting_held).0 (long_or_other rules (option (name_of part)) text o waiting_held).1))
       (after_step rules text waiting_now (long_or_other rules (option (name_of part)) text o waiting_held).0 (long_or_other rules (option (name_of part)) text o waiting_held).1)
       (cond (is_some o || is_some (short_of text)) None (Some (after_value text)))
   value_flag_follows text good (Some n) = inl (unclean-first _ _ (long_unclean (arg_by_long rules n.0) n.1 waiting_held waiting_bad))
@@ -509,8 +509,8 @@ module _ (given : Given) (part : Part) (takes : takes_value part ≡ true) (new 
 
   value_word_follows : (text : Text) → IsBundle text → (d : Bool)
       → Follows (or_else (cond d [] (flag_word_fault rules false (long_of text) text waiting_held))
-      (step_fault top place (cond d (waiting_held, trailing place) (long_or_other rules (option (name_of part)) text (long_of text) waiting_held)).0 (cond d (waiting_held, trailing place) (long_or_other rules (option (name_of part)) text (long_of text) waiting_held)).1))
-      (after_step rules text waiting_now (cond d (waiting_held, trailing place) (long_or_other rules (option (name_of part)) text (long_of text) waiting_held)).0 (cond d (waiting_held, trailing place) (long_or_other rules (option (name_of part)) text (long_of text) waiting_held)).1)
+      (step_fault top index (cond d (waiting_held, trailing index) (long_or_other rules (option (name_of part)) text (long_of text) waiting_held)).0 (cond d (waiting_held, trailing index) (long_or_other rules (option (name_of part)) text (long_of text) waiting_held)).1))
+      (after_step rules text waiting_now (cond d (waiting_held, trailing index) (long_or_other rules (option (name_of part)) text (long_of text) waiting_held)).0 (cond d (waiting_held, trailing index) (long_or_other rules (option (name_of part)) text (long_of text) waiting_held)).1)
       (cond (d || (is_some (long_of text) || is_some (short_of text))) None (Some (after_value text)))
   value_word_follows text good true = inr (dead_ended (rows_of_given given) (Some (name_of part, [])) (option (name_of part)) (has word given) waiting_bad)
   value_word_follows text good false = value_flag_follows text good (long_of text)

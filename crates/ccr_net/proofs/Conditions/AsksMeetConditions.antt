@@ -281,11 +281,11 @@ module _ (w : Parts) (valid : IsValid w) (n : ℕ) (lacks : Lacks) (es : List En
 
   -- ---- work
 
-  run_met : (task : Task) (how : How) (place : ℕ) (left : List Sent) → RunsTask w (visible es) a task place left → Met (at_place (places.Arbiter task.arbiter) (asks.Over task.id task.root how))
-  run_met task how place left run = over_met w task.arbiter (slice_get w.arbiters task.arbiter) (notes_at es (places.Arbiter task.arbiter)) task.id task.root how (ap (λ (t : Task). may_over_at w es t.arbiter t.root) run.as_seen ∙ at_work_may w all.domains n lacks es ready.holds ready.noted task.id (running_works w (visible es) ready.holds.legal task.id (runs (visible es) a task.id run.alone)))
+  run_met : (task : Task) (how : How) (index : ℕ) (left : List Sent) → RunsTask w (visible es) a task index left → Met (at_place (places.Arbiter task.arbiter) (asks.Over task.id task.root how))
+  run_met task how index left run = over_met w task.arbiter (slice_get w.arbiters task.arbiter) (notes_at es (places.Arbiter task.arbiter)) task.id task.root how (ap (λ (t : Task). may_over_at w es t.arbiter t.root) run.as_seen ∙ at_work_may w all.domains n lacks es ready.holds ready.noted task.id (running_works w (visible es) ready.holds.legal task.id (runs (visible es) a task.id run.alone)))
 
-  leave_met : (place : ℕ) → st.work ≡ lines place [] → WorkMatches w (visible es) a (lines place []) → Met (at_place places.Meter asks.Leave)
-  leave_met place work match = is_given _ _ (let few = below in grind (arith, nat_tests, few))
+  leave_met : (index : ℕ) → st.work ≡ lines index [] → WorkMatches w (visible es) a (lines index []) → Met (at_place places.Meter asks.Leave)
+  leave_met index work match = is_given _ _ (let few = below in grind (arith, nat_tests, few))
     where
       in_range : {X : Type 0} (xs : List X) (k : ℕ) (x : X) → slice_get xs k ≡ Some x → k < length xs
       in_range [] k x at = absurd (cc)
@@ -308,22 +308,22 @@ module _ (w : Parts) (valid : IsValid w) (n : ℕ) (lacks : Lacks) (es : List En
           inside : (u v : Asked) → Some u ≡ Some v → u ≡ v
           inside u v e = cc
 
-      by_end : (task : Task) (place : ℕ) (play : Play) (left : List Sent) → RunsTask w (visible es) a task place left → (end : PlayEnd) → Met (end_ask task play end)
-      by_end task place play left run plays.Done = run_met task hows.Done place left run
-      by_end task place play left run (plays.Failed value) = run_met task (hows.Failed value) place left run
-      by_end task place play left run (plays.Yield site) = refl
+      by_end : (task : Task) (index : ℕ) (play : Play) (left : List Sent) → RunsTask w (visible es) a task index left → (end : PlayEnd) → Met (end_ask task play end)
+      by_end task index play left run plays.Done = run_met task hows.Done index left run
+      by_end task index play left run (plays.Failed value) = run_met task (hows.Failed value) index left run
+      by_end task index play left run (plays.Yield site) = refl
 
-      by_posts : (task : Task) (place : ℕ) (play : Play) → RunsTask w (visible es) a task place play.posts → (ps : List Sent) → Met (play_ask task play ps)
-      by_posts task place play run [] = by_end task place play play.posts run play.end
-      by_posts task place play run (sent ∷ ps) = refl
+      by_posts : (task : Task) (index : ℕ) (play : Play) → RunsTask w (visible es) a task index play.posts → (ps : List Sent) → Met (play_ask task play ps)
+      by_posts task index play run [] = by_end task index play play.posts run play.end
+      by_posts task index play run (sent ∷ ps) = refl
 
       by : (wk : Work) → st.work ≡ wk → WorkMatches w (visible es) a wk → work_ask a wk ≡ Some x → Met x
-      by (lines place []) at match now = one _ now (leave_met place at match)
-      by (lines place (sent ∷ sents)) at match now = one _ now (post_met sent.port _ refl)
+      by (lines index []) at match now = one _ now (leave_met index at match)
+      by (lines index (sent ∷ sents)) at match now = one _ now (post_met sent.port _ refl)
       by round at match now = one _ now refl
       by (taking left queue more) at match now = one _ now refl
-      by (playing task place play) at match now = one _ now (by_posts task place play match.0 play.posts)
-      by (posting task place play sent) at match now = one _ now (post_met sent.port _ refl)
+      by (playing task index play) at match now = one _ now (by_posts task index play match.0 play.posts)
+      by (posting task index play sent) at match now = one _ now (post_met sent.port _ refl)
       by (shedding task) at match now = one _ now (run_met task hows.Shed match.0 (match.1 ∷ match.2) match.3)
       by resting at match now = absurd (cc)
 

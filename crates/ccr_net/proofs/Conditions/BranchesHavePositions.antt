@@ -27,25 +27,25 @@ use Rattle.ccr_net.proofs.Kept.ValidWiringsArePlain.{one_branch}
 
 -- ---- positions
 
--- a placement by its arbiter's place, and its number there
-record InPlace (n : ℕ) (parts : List ArbiterPart) (b : ℕ) (r : Placement) : Type 0 where
-  place : ℕ
+-- a placement by the index of its arbiter, and its number there
+record AtArbiter (n : ℕ) (parts : List ArbiterPart) (b : ℕ) (r : Placement) : Type 0 where
+  index : ℕ
   part : ArbiterPart
-  number : r.domain ≡ n + place
-  at : slice_get parts place ≡ Some part
+  number : r.domain ≡ n + index
+  at : slice_get parts index ≡ Some part
   kind : r.kind ≡ part.kind
-  low : branches_before place parts ≤ b
-  high : b < branches_before place parts + length part.branches
+  low : branches_before index parts ≤ b
+  high : b < branches_before index parts + length part.branches
 
-in_place : (n : ℕ) (parts : List ArbiterPart) (b : ℕ) (r : Placement) → slice_get (placements_from n parts) b ≡ Some r → InPlace n parts b r
-in_place n [] b r at = absurd (nobody at)
+at_arbiter : (n : ℕ) (parts : List ArbiterPart) (b : ℕ) (r : Placement) → slice_get (placements_from n parts) b ≡ Some r → AtArbiter n parts b r
+at_arbiter n [] b r at = absurd (nobody at)
   where
     nobody : slice_get {X = Placement} [] b ≡ Some r → ⊥
     nobody e = absurd cc
-in_place n (a ∷ parts) b r at = by (nat_lt b (length a.branches)) refl (λ k later. in_place (n + 1) parts k r later)
+at_arbiter n (a ∷ parts) b r at = by (nat_lt b (length a.branches)) refl (λ k later. at_arbiter (n + 1) parts k r later)
   where
-    by : (c : Bool) → nat_lt b (length a.branches) ≡ c → ((k : ℕ) → slice_get (placements_from (n + 1) parts) k ≡ Some r → InPlace (n + 1) parts k r) → InPlace n (a ∷ parts) b r
-    by true e rest = record { place = 0; part = a; number = ap (λ (s : Placement). s.domain) is ∙ (let same : n ≡ n + 0 = omega arith in same); at = refl; kind = ap (λ (s : Placement). s.kind) is; low = omega arith; high = omega (arith, below) }
+    by : (c : Bool) → nat_lt b (length a.branches) ≡ c → ((k : ℕ) → slice_get (placements_from (n + 1) parts) k ≡ Some r → AtArbiter (n + 1) parts k r) → AtArbiter n (a ∷ parts) b r
+    by true e rest = record { index = 0; part = a; number = ap (λ (s : Placement). s.domain) is ∙ (let same : n ≡ n + 0 = omega arith in same); at = refl; kind = ap (λ (s : Placement). s.kind) is; low = omega arith; high = omega (arith, below) }
       where
         below : b < length a.branches
         below = grind (arith, nat_tests, e)
@@ -64,7 +64,7 @@ in_place n (a ∷ parts) b r at = by (nat_lt b (length a.branches)) refl (λ k l
         let number = there.number in
         let low = there.low in
         let high = there.high in
-        record { place = suc there.place; part = there.part; number = omega (arith, number); at = there.at; kind = there.kind; low = omega (arith, above, low); high = omega (arith, above, high) }
+        record { index = suc there.index; part = there.part; number = omega (arith, number); at = there.at; kind = there.kind; low = omega (arith, above, low); high = omega (arith, above, high) }
 
 -- ---- domains
 
@@ -96,17 +96,17 @@ branch_position w valid b s part sits at kind_so outside = of_placement (slice_g
         same : in_domain w.domains r ≡ s
         same = cc
 
-        there : InPlace 0 w.arbiters b r
-        there = in_place 0 w.arbiters b r here
+        there : AtArbiter 0 w.arbiters b r
+        there = at_arbiter 0 w.arbiters b r here
 
-        raw : r.domain ≡ there.place
-        raw = there.number ∙ (let e : 0 + there.place ≡ there.place = omega arith in e)
+        raw : r.domain ≡ there.index
+        raw = there.number ∙ (let e : 0 + there.index ≡ there.index = omega arith in e)
 
         free : is_interleave there.part.kind ≡ false
         free = ap is_interleave (sym there.kind ∙ ap (λ (x : Placement). x.kind) same) ∙ outside
 
-        number : s.domain ≡ there.place
-        number = ap (λ (x : Placement). x.domain) (sym same) ∙ ap (domain_of w.domains) raw ∙ own_domain w there.place there.part w.domains dangling there.at free
+        number : s.domain ≡ there.index
+        number = ap (λ (x : Placement). x.domain) (sym same) ∙ ap (domain_of w.domains) raw ∙ own_domain w there.index there.part w.domains dangling there.at free
 
         part_so : there.part ≡ part
         part_so = inside there.part part (sym there.at ∙ ap (slice_get w.arbiters) (sym number) ∙ at)
@@ -118,7 +118,7 @@ branch_position w valid b s part sits at kind_so outside = of_placement (slice_g
         low = subst (λ k. branches_before k w.arbiters ≤ b) (sym number) there.low
 
         high : b < first_branch w s.domain + length part.branches
-        high = subst (λ k. b < branches_before k w.arbiters + length part.branches) (sym number) (subst (λ (x : ArbiterPart). b < branches_before there.place w.arbiters + length x.branches) part_so there.high)
+        high = subst (λ k. b < branches_before k w.arbiters + length part.branches) (sym number) (subst (λ (x : ArbiterPart). b < branches_before there.index w.arbiters + length x.branches) part_so there.high)
 
         within : (count : ℕ) → length part.branches ≡ count → nat_le (first_branch w s.domain) b && nat_lt b (first_branch w s.domain + count) ≡ true
         within count is' =

@@ -150,22 +150,22 @@ module _ (w : Parts) (n : ℕ) (lacks : Lacks) (es : List Entry) (e : Entry) (lo
       got : Given w es e (at_place (places.Arbiter i) asks.Admit)
       got = given_to w lacks es e step (admit i more) (at_place (places.Arbiter i) asks.Admit) turns refl
 
-      place : InterleaveState
-      place = domain_at w es i
+      state : InterleaveState
+      state = domain_at w es i
 
       inside : {a b : Note} → Some a ≡ Some b → b ≡ a
       inside is = cc
 
-      admitted_so : is_interleave_number w i ≡ true → e.note ≡ notes.Admit (interleaves.admit_note place) → Done
-      admitted_so number note = by_list place.waiting refl (note ∙ refl)
+      admitted_so : is_interleave_number w i ≡ true → e.note ≡ notes.Admit (interleaves.admit_note state) → Done
+      admitted_so number note = by_list state.waiting refl (note ∙ refl)
         where
-          by_may : (x : Waiting) (others : List Waiting) → place.waiting ≡ x ∷ others → (c : Bool) → interleaves.may_admit place x.spot ≡ c → e.note ≡ notes.Admit (option_map (λ (y : Waiting). y.task) (if c then Some x else None)) → Done
+          by_may : (x : Waiting) (others : List Waiting) → state.waiting ≡ x ∷ others → (c : Bool) → interleaves.may_admit state x.spot ≡ c → e.note ≡ notes.Admit (option_map (λ (y : Waiting). y.task) (if c then Some x else None)) → Done
           by_may x others list false may now = step_strike i more turns got.there now
-          by_may x others list true may now = step_admit i more (oldest w h i place x others holds.legal list (holds.domains i number)) turns number may got.there now
+          by_may x others list true may now = step_admit i more (oldest w h i state x others holds.legal list (holds.domains i number)) turns number may got.there now
 
-          by_list : (xs : List Waiting) → place.waiting ≡ xs → e.note ≡ notes.Admit (option_map (λ (y : Waiting). y.task) (option_and_then (λ (y : Waiting). if interleaves.may_admit place y.spot then Some y else None) (slice_get place.waiting 0))) → Done
-          by_list [] is now = step_strike i more turns got.there (now ∙ ap (λ (ys : List Waiting). notes.Admit (option_map (λ (y : Waiting). y.task) (option_and_then (λ (y : Waiting). if interleaves.may_admit place y.spot then Some y else None) (slice_get ys 0)))) is)
-          by_list (x ∷ others) is now = by_may x others is (interleaves.may_admit place x.spot) refl (now ∙ ap (λ (ys : List Waiting). notes.Admit (option_map (λ (y : Waiting). y.task) (option_and_then (λ (y : Waiting). if interleaves.may_admit place y.spot then Some y else None) (slice_get ys 0)))) is)
+          by_list : (xs : List Waiting) → state.waiting ≡ xs → e.note ≡ notes.Admit (option_map (λ (y : Waiting). y.task) (option_and_then (λ (y : Waiting). if interleaves.may_admit state y.spot then Some y else None) (slice_get state.waiting 0))) → Done
+          by_list [] is now = step_strike i more turns got.there (now ∙ ap (λ (ys : List Waiting). notes.Admit (option_map (λ (y : Waiting). y.task) (option_and_then (λ (y : Waiting). if interleaves.may_admit state y.spot then Some y else None) (slice_get ys 0)))) is)
+          by_list (x ∷ others) is now = by_may x others is (interleaves.may_admit state x.spot) refl (now ∙ ap (λ (ys : List Waiting). notes.Admit (option_map (λ (y : Waiting). y.task) (option_and_then (λ (y : Waiting). if interleaves.may_admit state y.spot then Some y else None) (slice_get ys 0)))) is)
 
       by_part : (o : Option ArbiterPart) → slice_get w.arbiters i ≡ o → note_at_arbiter w i o (notes_at es (places.Arbiter i)) asks.Admit ≡ Some e.note → Done
       by_part None is gives = absurd (cc)

@@ -13,7 +13,7 @@ use Rattle.ccr_base.specs.declared.patterns.Slot.{Slot}
 use Rattle.ccr_base.specs.declared.tasks.By.{By}
 use Rattle.ccr_base.specs.declared.tasks.How.TheVariants as hows
 use Rattle.ccr_base.specs.declared.tasks.Task.{Task}
-use Rattle.ccr_base.specs.Choice.{fitting, is_choosable}
+use Rattle.ccr_base.specs.Selection.{fitting, is_choosable}
 use Rattle.ccr_base.specs.Names.{has_task}
 use Rattle.ccr_wiring.specs.declared.parts.ArbiterPart.{ArbiterPart}
 use Rattle.ccr_wiring.specs.declared.parts.Kind.{Kind}
@@ -22,7 +22,7 @@ use Rattle.ccr_wiring.specs.declared.parts.Parts.{Parts}
 use Rattle.ccr_wiring.specs.Wirings.{Placement, placement, site_port, queue_of_spot as queue_number, domain_of_spot}
 use Rattle.ccr_model.specs.declared.history.Event.{Event}
 use Rattle.ccr_model.specs.declared.history.Event.TheVariants as events
-use Rattle.ccr_model.specs.Choice.{is_choice_of, are_oldest}
+use Rattle.ccr_model.specs.Selection.{is_selection_of, are_oldest}
 use Rattle.ccr_model.specs.Firings.{fired}
 use Rattle.ccr_model.specs.Legal.{IsAllowed}
 use Rattle.ccr_model.specs.Posts.{held}
@@ -225,7 +225,7 @@ module _ (w : Parts) (n : ℕ) (first : PlainFacts w) (few : n ≤ 33) (lacks : 
       fresh_name = unfired w h (port_at es) e.actor before own.claims
 
       allowed : IsAllowed w h (events.Fire (name_at e.actor before) (Branch b) names cs)
-      allowed = fire_allowed w h (name_at e.actor before) b s names cs sits fresh_name (omega (arith, low, few)) live (has_room-left w h (queue_at w es) s.branch.queue (name_at e.actor before) holds.legal holds.queues.listed holds.queues.booked booked fresh_name) (subst (λ p. is_choice_of (held h) p names ≡ true) pattern (chosen_now w n first few lacks es e low holds (pattern_at w (Branch b)) even fits_now)) cut_so
+      allowed = fire_allowed w h (name_at e.actor before) b s names cs sits fresh_name (omega (arith, low, few)) live (has_room-left w h (queue_at w es) s.branch.queue (name_at e.actor before) holds.legal holds.queues.listed holds.queues.booked booked fresh_name) (subst (λ p. is_selection_of (held h) p names ≡ true) pattern (chosen_now w n first few lacks es e low holds (pattern_at w (Branch b)) even fits_now)) cut_so
 
       note : e.note ≡ notes.Fired (name_at e.actor before) (Branch b) names cs
       note = had_note ∙ ap (λ ms. notes.Fired (name_at e.actor before) (Branch b) (names_of ms) cs) ((λ q. in_pattern (sym pattern q) had) ∙ ap (in_pattern (pattern_at w (Branch b))) (sym (ap had_in phase)))
@@ -283,21 +283,21 @@ module _ (w : Parts) (n : ℕ) (first : PlainFacts w) (few : n ≤ 33) (lacks : 
 
   -- the commit at an Interleave
   commit_interleave : (b : ℕ) (s : Placement) (more : List Spot) (had : List Had) (i : ℕ) → placement w b ≡ Some s → s.domain ≡ i → s.kind ≡ kinds.Interleave → is_interleave_number w i ≡ true → turn before ≡ drive (Branch b) more → before.phase ≡ claiming [] had → Fits s.branch.pattern [] had → e.place ≡ places.Arbiter i → interleave_note (domain_at w es i) (asks.Commit (firing_task (plan_of w (Branch b)) (name_at e.actor before) (in_pattern s.branch.pattern had)) (names_of (in_pattern s.branch.pattern had))) ≡ Some e.note → Done
-  commit_interleave b s more had i sits at_its kind number turns phase fits there gives = by_dead (interleaves.dead_by place) refl
+  commit_interleave b s more had i sits at_its kind number turns phase fits there gives = by_dead (interleaves.dead_by state) refl
     where
-      place : InterleaveState
-      place = domain_at w es i
+      state : InterleaveState
+      state = domain_at w es i
 
       task : Task
       task = firing_task (plan_of w (Branch b)) (name_at e.actor before) (in_pattern s.branch.pattern had)
 
       fires_note : Note
-      fires_note = notes.Fired task.id task.spot (names_of (in_pattern s.branch.pattern had)) (interleaves.cut_note place task.spot)
+      fires_note = notes.Fired task.id task.spot (names_of (in_pattern s.branch.pattern had)) (interleaves.cut_note state task.spot)
 
-      noted : (o : Option By) → interleaves.dead_by place ≡ o → e.note ≡ commit_note task (names_of (in_pattern s.branch.pattern had)) o fires_note
-      noted o is = (given_some (interleaves.may_commit place task) _ e.note gives).1 ∙ ap (λ x. commit_note task (names_of (in_pattern s.branch.pattern had)) x fires_note) is
+      noted : (o : Option By) → interleaves.dead_by state ≡ o → e.note ≡ commit_note task (names_of (in_pattern s.branch.pattern had)) o fires_note
+      noted o is = (given_some (interleaves.may_commit state task) _ e.note gives).1 ∙ ap (λ x. commit_note task (names_of (in_pattern s.branch.pattern had)) x fires_note) is
 
-      match : DomainMatches w h i place
+      match : DomainMatches w h i state
       match = holds.domains i number
 
       within : is_placement_in i s ≡ true
@@ -311,11 +311,11 @@ module _ (w : Parts) (n : ℕ) (first : PlainFacts w) (few : n ≤ 33) (lacks : 
       live_in groups.Always may none = absurd (cc)
       live_in groups.Choice may none = absurd (cc)
 
-      live : interleaves.dead_by place ≡ None → is_live w h (Branch b) ≡ true
-      live alive = rw sits (live_in s.branch.group (subst (λ k. may_have k s.branch.group ≡ true) kind (first.groups_so b s sits)) (ap is_none_of (ap (λ k. fired_by w (tears k) h) at_its ∙ match.torn_so (none_map ByFired place.teardown alive))))
+      live : interleaves.dead_by state ≡ None → is_live w h (Branch b) ≡ true
+      live alive = rw sits (live_in s.branch.group (subst (λ k. may_have k s.branch.group ≡ true) kind (first.groups_so b s sits)) (ap is_none_of (ap (λ k. fired_by w (tears k) h) at_its ∙ match.torn_so (none_map ByFired state.teardown alive))))
 
-      by_dead : (o : Option By) → interleaves.dead_by place ≡ o → Done
-      by_dead None is = fires_branch b s more had i (interleaves.cut_note place (Branch b)) sits at_its turns phase fits there (live is) (cuts_so w h i b place s sits at_its within match) (noted None is) (λ ms allowed note. DomainsMatch-fire w h es e (name_at e.actor before) b i s ms holds.legal allowed sits within number there note holds.domains)
+      by_dead : (o : Option By) → interleaves.dead_by state ≡ o → Done
+      by_dead None is = fires_branch b s more had i (interleaves.cut_note state (Branch b)) sits at_its turns phase fits there (live is) (cuts_so w h i b state s sits at_its within match) (noted None is) (λ ms allowed note. DomainsMatch-fire w h es e (name_at e.actor before) b i s ms holds.legal allowed sits within number there note holds.domains)
       by_dead (Some by) is = step_dead w n lacks es e low holds i (Branch b) more (name_at e.actor before) (Branch b) by there (noted (Some by) is) turns (rw (turns, noted (Some by) is) refl)
 
   commit_by : (b : ℕ) (s : Placement) (more : List Spot) (had : List Had) → placement w b ≡ Some s → turn before ≡ drive (Branch b) more → before.phase ≡ claiming [] had → Fits s.branch.pattern [] had → Given w es e (at_place (places.Arbiter (domain_of_spot w (Branch b))) (asks.Commit (firing_task (plan_of w (Branch b)) (name_at e.actor before) (in_pattern s.branch.pattern had)) (names_of (in_pattern s.branch.pattern had)))) → Done

@@ -25,7 +25,7 @@ use Rattle.ccr_model.specs.declared.history.Event.{Event}
 use Rattle.ccr_model.specs.declared.history.Event.TheVariants as events
 use Rattle.ccr_model.specs.declared.history.EndHow.{EndHow}
 use Rattle.ccr_model.specs.declared.history.EndHow.TheVariants as ends
-use Rattle.ccr_model.specs.Choice.{is_choice_of, are_first, are_oldest}
+use Rattle.ccr_model.specs.Selection.{is_selection_of, are_first, are_oldest}
 use Rattle.ccr_model.specs.Firings.{Firing, fired, firings, put, cut, ended, yielded_by, last_by}
 use Rattle.ccr_model.specs.Legal.{IsAllowed}
 use Rattle.ccr_model.specs.Posts.{posts, posts_of_task, held, taken}
@@ -42,7 +42,7 @@ use Rattle.ccr_model.proofs.SameNames.{same_task-self}
 use Rattle.ccr_model.proofs.TaskSteps.{queued-fire}
 use Rattle.ccr_model.proofs.FiringPlacements.{firing_with_placement}
 use Rattle.ccr_model.proofs.TaskLists.{without-append, has_oldest, among_left, among_right, not_more, of_one}
-use Rattle.ccr_model.proofs.TaskPlaces.{ArePlaced-legal, QueuedFacts, QueuedFacts-queued}
+use Rattle.ccr_model.proofs.WhoWasPut.{ArePlaced-legal, QueuedFacts, QueuedFacts-queued}
 use Rattle.ccr_places.specs.declared.notes.Note.TheVariants as notes
 use Rattle.ccr_places.specs.Queues as queues
 use Rattle.ccr_claim.specs.declared.asks.Reply.TheVariants as replies
@@ -76,7 +76,7 @@ use Rattle.ccr_net.proofs.Kept.SilentStepsKeepAll.{drives}
 use Rattle.ccr_net.proofs.Kept.WhatWiringsHave.{PlainFacts, IsEven, no_posts}
 use Rattle.ccr_net.proofs.Kept.EventsAreAllowed.{put_allowed, start_allowed}
 use Rattle.ccr_net.proofs.Kept.ShownStepsKeepAll.{named_legal, ActorHolds-event, step_other}
-use Rattle.ccr_net.proofs.Parts.GotIsAChoice.{first_takes, all_fit, in_ports, chosen, whole_ports, fired_other, none_put}
+use Rattle.ccr_net.proofs.Parts.GotIsASelection.{all_fit, in_ports, chosen, whole_ports, fired_other, none_put}
 use Rattle.ccr_net.proofs.Kept.SilentStepsKeepAll.{still_apart}
 use Rattle.ccr_net.proofs.Parts.EventsChangeDomains.{over_now}
 use Rattle.ccr_net.proofs.Parts.DomainsMatch.{DomainsMatch, DomainsMatch-elsewhere, DomainsMatch-event, DomainsMatch-over}
@@ -87,6 +87,7 @@ use Rattle.ccr_model.specs.Rules.{needs_no_admission}
 use Rattle.ccr_model.specs.Tasks.{is_over}
 use Rattle.ccr_model.proofs.FiredTasks.{root_stays}
 use Rattle.ccr_model.proofs.Queued.{queued-other, new_unput}
+use Rattle.ccr_model.proofs.Allowing.{first-self}
 
 module _ (w : Parts) (n : ℕ) (first : PlainFacts w) (few : n ≤ 33) (lacks : Lacks) (es : List Entry) (e : Entry) (low : e.actor < n) (holds : Holds w n lacks es) where
   abbrev before : State
@@ -97,8 +98,8 @@ module _ (w : Parts) (n : ℕ) (first : PlainFacts w) (few : n ≤ 33) (lacks : 
 
   -- ---- a firing
 
-  -- the names of what the attempt got, where they are a choice of its pattern
-  pub chosen_now : (pattern : Pattern) → IsEven pattern → Fits pattern [] (had_in before.phase) → is_choice_of (held h) pattern (names_of (in_pattern pattern (had_in before.phase))) ≡ true
+  -- the names of what the attempt got, where they are a selection of its pattern
+  pub chosen_now : (pattern : Pattern) → IsEven pattern → Fits pattern [] (had_in before.phase) → is_selection_of (held h) pattern (names_of (in_pattern pattern (had_in before.phase))) ≡ true
   chosen_now pattern even fits = chosen w h (port_at es) e.actor before (named_legal w h holds.legal) holds.ports (holds.actors e.actor).claims (unfired w h (port_at es) e.actor before (holds.actors e.actor).claims) pattern even fits
 
   -- of a site, the oldest message
@@ -123,7 +124,7 @@ module _ (w : Parts) (n : ℕ) (first : PlainFacts w) (few : n ≤ 33) (lacks : 
           let whole : in_pattern (one_of port) (had_in before.phase) ≡ d.messages = in_ports (one_of port) (had_in before.phase) ∙ append-nil (had_at (had_in before.phase) port) ∙ got in
           let taken_so : take (length d.messages) (held h port) ≡ d.messages = ap (λ q. take (length d.messages) (held h q)) (sym at_port) ∙ ap (take (length d.messages)) (held_had w h (port_at es) e.actor before (named_legal w h holds.legal) holds.ports own fresh d is ∙ sym (all_fit d.slot.pred (port_at es d.slot.port).items any)) ∙ own.had_marked d is in
           let count : (length (names_of d.messages) == 1) ≡ true = (let m = length-map d.messages (λ (x : Msg). x.id) in grind (arith, nat_tests, one, m)) in
-          let firsts : are_first (held h port) (names_of d.messages) ≡ true = subst (λ ms. are_first (held h port) (names_of ms) ≡ true) taken_so (first_takes (length d.messages) (held h port)) in
+          let firsts : are_first (held h port) (names_of d.messages) ≡ true = subst (λ ms. are_first (held h port) (names_of ms) ≡ true) taken_so (first-self (held h port) (length d.messages)) in
           rw (whole, count) firsts
 
       of_had : (had : List Had) → had_in before.phase ≡ had → Fits (one_of port) [] (had_in before.phase) → are_oldest (held h port) (names_of (in_pattern (one_of port) (had_in before.phase))) ≡ true
@@ -394,7 +395,7 @@ module _ (w : Parts) (n : ℕ) (first : PlainFacts w) (few : n ≤ 33) (lacks : 
         booked = BookingsMatch-event w h event (queue_at w (es ++ e ∷ [])) refl (BookingsMatch-take w h (queue_at w es) (queue_at w (es ++ e ∷ [])) q (Some t) changes holds.queues.booked);
       })
       (λ a. Stays-note (queue_at w es) (queue_at w (es ++ e ∷ [])) q (notes.Take (Some t)) (name_at a (state_of w lacks es a)) changes (λ k is. is))
-      (record { worker = idle.worker; alone = alone; fires = IsFired-more; as_seen = refl; place_so = sym none_posted; left_so = refl }, refl)
+      (record { worker = idle.worker; alone = alone; fires = IsFired-more; as_seen = refl; index_so = sym none_posted; left_so = refl }, refl)
       (λ a other. start_says h t a e.actor other)
       (same_meter w es e (places.Queue q) place refl)
       (λ works' one. MeterMatches-quiet w n h (h ++ event ∷ []) (meter_at w es).drawn e.actor (works_of w lacks es) works' (playing task 0 (play_in w task)) low (rw (posts-push, append-nil) refl) (sym unposting) (λ is. absurd (cc)) one holds.meter)
@@ -448,8 +449,8 @@ module _ (w : Parts) (n : ℕ) (first : PlainFacts w) (few : n ≤ 33) (lacks : 
 
   -- ---- an end
 
-  pub step_end : (i : ℕ) (task : Task) (place : ℕ) (left : List Sent) (how : EndHow) (said : How) → e.note ≡ notes.Over task.id task.root said → e.place ≡ places.Arbiter i → event_of e ≡ events.End task.id how ∷ [] → yielded_by (events.End task.id how) ≡ [] → turn before ≡ go_on → RunsTask w h e.actor task place left → is_posting before.work ≡ false → after_in w e.actor before (turn before) (reply_of w es e) ≡ after_over w before task → IsAllowed w h (events.End task.id how) → Holds w n lacks (es ++ e ∷ [])
-  step_end i task place left how said note there is last turns run unposting goes allowed =
+  pub step_end : (i : ℕ) (task : Task) (index : ℕ) (left : List Sent) (how : EndHow) (said : How) → e.note ≡ notes.Over task.id task.root said → e.place ≡ places.Arbiter i → event_of e ≡ events.End task.id how ∷ [] → yielded_by (events.End task.id how) ≡ [] → turn before ≡ go_on → RunsTask w h e.actor task index left → is_posting before.work ≡ false → after_in w e.actor before (turn before) (reply_of w es e) ≡ after_over w before task → IsAllowed w h (events.End task.id how) → Holds w n lacks (es ++ e ∷ [])
+  step_end i task index left how said note there is last turns run unposting goes allowed =
       step_other w n lacks es e low holds event (places.Arbiter i) (after_over w before task) there is refl (same_ports es e (places.Arbiter i) there refl) turns goes
       (record { hand = refl; phase = refl; attempt = refl; spots_so = (holds.actors e.actor).fits.spots_so })
       (rw (posts-push, append-nil) refl) taken_so fired_so (rw (put-push, append-nil) refl) allowed
@@ -497,8 +498,8 @@ module _ (w : Parts) (n : ℕ) (first : PlainFacts w) (few : n ≤ 33) (lacks : 
 
   -- ---- a suspension
 
-  pub step_suspend : (task : Task) (place : ℕ) (left : List Sent) → e.place ≡ places.Site (branch_of task.spot) (segment_of task.spot) → e.note ≡ notes.Suspend task.id → turn before ≡ go_on → RunsTask w h e.actor task place left → is_posting before.work ≡ false → after_in w e.actor before (turn before) (reply_of w es e) ≡ record (driving before (next_site task.spot ∷ [])) { work = next_round before.taken } → IsAllowed w h (events.End task.id ends.Yield) → SpotFits w (next_site task.spot) → Holds w n lacks (es ++ e ∷ [])
-  step_suspend task place left there note turns run unposting goes allowed there_is =
+  pub step_suspend : (task : Task) (index : ℕ) (left : List Sent) → e.place ≡ places.Site (branch_of task.spot) (segment_of task.spot) → e.note ≡ notes.Suspend task.id → turn before ≡ go_on → RunsTask w h e.actor task index left → is_posting before.work ≡ false → after_in w e.actor before (turn before) (reply_of w es e) ≡ record (driving before (next_site task.spot ∷ [])) { work = next_round before.taken } → IsAllowed w h (events.End task.id ends.Yield) → SpotFits w (next_site task.spot) → Holds w n lacks (es ++ e ∷ [])
+  step_suspend task index left there note turns run unposting goes allowed there_is =
       step_other w n lacks es e low holds event here next there (rw note refl) refl (same_ports es e here there refl) turns goes
       (record { hand = refl; phase = refl; attempt = refl; spots_so = λ x is. one_spot x is })
       (rw (posts-push, append-nil) refl) taken_so fired_so (rw (put-push, append-nil) refl) allowed

@@ -47,7 +47,7 @@ fresh_work w a = by (slice_get w.posters a) refl
   where
     by : (o : Option PosterPart) → slice_get w.posters a ≡ o → WorkMatches w [] a (option_map_or (λ (p : PosterPart). lines 0 p.posts) o round)
     by None is = record { worker = none-above w.posters a is; none = refl }
-    by (Some p) is = record { poster = p; is_poster = is; place_so = refl; left_so = refl }
+    by (Some p) is = record { poster = p; is_poster = is; index_so = refl; left_so = refl }
 
 no_posting : (w : Parts) (a : ℕ) → is_posting (work_of w a) ≡ false
 no_posting w a = by (slice_get w.posters a)

@@ -29,7 +29,7 @@ use Rattle.ccr_wiring.proofs.Soundness.{sound}
 use Rattle.ccr_wiring.proofs.Validity.{no_codes}
 use Rattle.ccr_model.specs.Tasks.{is_interleave}
 use Rattle.ccr_base.proofs.Booleans.{both}
-use Rattle.ccr_model.proofs.Members.{Among, Among-either, place_of}
+use Rattle.ccr_model.proofs.Members.{Among, Among-either, index_of}
 use Rattle.ccr_actor.specs.Actors.{play_in}
 use Rattle.ccr_places.specs.Arbiters as arbiters
 use Rattle.ccr_runs.specs.Places.{arbiter_after, branches_before, first_branch}
@@ -39,7 +39,7 @@ use Rattle.ccr_net.proofs.Kept.WhatWiringsHave.{PlainFacts, IsEven, Retires}
 
 even_filled : (pattern : Pattern) → IsPatternFilled pattern → IsEven pattern
 even_filled (Gather total first second) filled = tt
-even_filled (Slots slots) filled = λ slot among. (let found = place_of slots slot among in (filled.2 found.0 slot found.1).0)
+even_filled (Slots slots) filled = λ slot among. (let found = index_of slots slot among in (filled.2 found.0 slot found.1).0)
 
 -- ---- groups
 

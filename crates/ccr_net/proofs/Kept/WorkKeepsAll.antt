@@ -118,33 +118,33 @@ module _ (w : Parts) (n : ℕ) (first : PlainFacts w) (few : n ≤ 33) (lacks : 
   suc-one k = omega arith
 
   -- a line of a script
-  line_kept : (place : ℕ) (sents : List Sent) → before.work ≡ lines place sents → turn before ≡ go_on → Scripted w h e.actor place sents → Done
-  line_kept place [] work turns is = leave (given_to w lacks es e step go_on _ turns (ap (work_ask e.actor) work))
+  line_kept : (index : ℕ) (sents : List Sent) → before.work ≡ lines index sents → turn before ≡ go_on → Scripted w h e.actor index sents → Done
+  line_kept index [] work turns is = leave (given_to w lacks es e step go_on _ turns (ap (work_ask e.actor) work))
     where
       leave : Given w es e (at_place places.Meter asks.Leave) → Done
       leave got =
           let note = (given_some _ notes.Leave e.note got.gives).1 in
           at_meter_quiet (record before { work = resting }) notes.Leave got.there note (rw note refl) turns (rw (turns, work) refl) (record { hand = refl; phase = refl; attempt = refl; spots_so = own.fits.spots_so }) tt refl refl (rw work refl) (λ shed. absurd (cc))
-  line_kept place (sent ∷ sents) work turns is = post (given_to w lacks es e step go_on _ turns (ap (work_ask e.actor) work))
+  line_kept index (sent ∷ sents) work turns is = post (given_to w lacks es e step go_on _ turns (ap (work_ask e.actor) work))
     where
       m : Msg
-      m = script_message e.actor place sent
+      m = script_message e.actor index sent
 
       next : State
-      next = record (driving before (spots_at w sent.port)) { work = lines (place + 1) sents }
+      next = record (driving before (spots_at w sent.port)) { work = lines (index + 1) sents }
 
-      rest : (slice_get is.poster.posts place ≡ Some sent) × (sents ≡ drop (suc place) is.poster.posts) × (place < length is.poster.posts)
-      rest = drop-next place is.poster.posts sent sents is.left_so
+      rest : (slice_get is.poster.posts index ≡ Some sent) × (sents ≡ drop (suc index) is.poster.posts) × (index < length is.poster.posts)
+      rest = drop-next index is.poster.posts sent sents is.left_so
 
       post : Given w es e (at_place (places.Port sent.port) (asks.Post m)) → Done
       post got =
           let note = (given_some _ (notes.Post m) e.note got.gives).1 in
           step_post w n lacks es e low holds m next got.there note turns (rw (turns, work) refl)
           (record { hand = refl; phase = refl; attempt = refl; spots_so = λ s among. first.places_so s (Among-kept (takes_from w sent.port) (spots w) s among) })
-          (script_allowed w h e.actor place is.poster sent is.is_poster rest.0 is.place_so) is.place_so
-          (record { poster = is.poster; is_poster = is.is_poster; place_so = ap (λ k. k + 1) is.place_so ∙ sym (script_own h m e.actor place refl); left_so = rest.1 ∙ ap (λ k. drop k is.poster.posts) (suc-one place) })
-          (λ a other. script_says h m a e.actor place refl other)
-          (λ works' one. MeterMatches-quiet w n h (h ++ events.Post m ∷ []) (meter_at w es).drawn e.actor (works_of w lacks es) works' (lines (place + 1) sents) low (rw (posts-push h (events.Post m)) (posts_script (posts h) m refl)) (rw work refl) (λ shed. absurd (cc)) one holds.meter)
+          (script_allowed w h e.actor index is.poster sent is.is_poster rest.0 is.index_so) is.index_so
+          (record { poster = is.poster; is_poster = is.is_poster; index_so = ap (λ k. k + 1) is.index_so ∙ sym (script_own h m e.actor index refl); left_so = rest.1 ∙ ap (λ k. drop k is.poster.posts) (suc-one index) })
+          (λ a other. script_says h m a e.actor index refl other)
+          (λ works' one. MeterMatches-quiet w n h (h ++ events.Post m ∷ []) (meter_at w es).drawn e.actor (works_of w lacks es) works' (lines (index + 1) sents) low (rw (posts-push h (events.Post m)) (posts_script (posts h) m refl)) (rw work refl) (λ shed. absurd (cc)) one holds.meter)
 
   -- a round
   round_kept : before.work ≡ round → turn before ≡ go_on → Idle w h e.actor → Done
@@ -207,42 +207,42 @@ module _ (w : Parts) (n : ℕ) (first : PlainFacts w) (few : n ≤ 33) (lacks : 
   -- ---- a play
 
   -- the play of the task that runs
-  play_so : (task : Task) (place : ℕ) (left : List Sent) → RunsTask w h e.actor task place left → play_in w task ≡ play_of w h task.id
-  play_so task place left run = ap (play_in w) run.as_seen ∙ play-view w h task.id run.fires
+  play_so : (task : Task) (index : ℕ) (left : List Sent) → RunsTask w h e.actor task index left → play_in w task ≡ play_of w h task.id
+  play_so task index left run = ap (play_in w) run.as_seen ∙ play-view w h task.id run.fires
 
   -- the end that the play asks for
-  ends_by : (i : ℕ) (task : Task) (place : ℕ) (play : Play) (how : How) (ending : EndHow) → before.work ≡ playing task place play → play.posts ≡ [] → turn before ≡ go_on → RunsTask w h e.actor task place play.posts → after_in w e.actor before (turn before) (reply_of w es e) ≡ after_over w before task → is_shed ending ≡ false → ends_so ending (play_of w h task.id).end ≡ true → e.place ≡ places.Arbiter i → event_of e ≡ events.End task.id ending ∷ [] → yielded_by (events.End task.id ending) ≡ [] → e.note ≡ notes.Over task.id task.root how → Done
-  ends_by i task place play how ending work none turns run goes unshed so there is last note =
-      step_end w n first few lacks es e low holds i task place play.posts ending how note there is last turns run (rw work refl) goes
+  ends_by : (i : ℕ) (task : Task) (index : ℕ) (play : Play) (how : How) (ending : EndHow) → before.work ≡ playing task index play → play.posts ≡ [] → turn before ≡ go_on → RunsTask w h e.actor task index play.posts → after_in w e.actor before (turn before) (reply_of w es e) ≡ after_over w before task → is_shed ending ≡ false → ends_so ending (play_of w h task.id).end ≡ true → e.place ≡ places.Arbiter i → event_of e ≡ events.End task.id ending ∷ [] → yielded_by (events.End task.id ending) ≡ [] → e.note ≡ notes.Over task.id task.root how → Done
+  ends_by i task index play how ending work none turns run goes unshed so there is last note =
+      step_end w n first few lacks es e low holds i task index play.posts ending how note there is last turns run (rw work refl) goes
       (end_allowed w h task.id ending (runs h e.actor task.id run.alone) all unshed so)
     where
       all : length (play_of w h task.id).posts ≤ posts_of_task h task.id
-      all = subst (λ k. length (play_of w h task.id).posts ≤ k) run.place_so (subst (λ (p : Play). length p.posts ≤ place) (play_so task place play.posts run) (drop-end place (play_in w task).posts (sym none ∙ run.left_so)))
+      all = subst (λ k. length (play_of w h task.id).posts ≤ k) run.index_so (subst (λ (p : Play). length p.posts ≤ index) (play_so task index play.posts run) (drop-end index (play_in w task).posts (sym none ∙ run.left_so)))
 
-  play_kept : (task : Task) (place : ℕ) (play : Play) → before.work ≡ playing task place play → turn before ≡ go_on → RunsTask w h e.actor task place play.posts × (play.end ≡ (play_in w task).end) → Done
-  play_kept task place play work turns is = by_posts play.posts refl
+  play_kept : (task : Task) (index : ℕ) (play : Play) → before.work ≡ playing task index play → turn before ≡ go_on → RunsTask w h e.actor task index play.posts × (play.end ≡ (play_in w task).end) → Done
+  play_kept task index play work turns is = by_posts play.posts refl
     where
-      run : RunsTask w h e.actor task place play.posts
+      run : RunsTask w h e.actor task index play.posts
       run = is.0
 
       end_so : play.end ≡ (play_of w h task.id).end
-      end_so = is.1 ∙ ap (λ (p : Play). p.end) (play_so task place play.posts run)
+      end_so = is.1 ∙ ap (λ (p : Play). p.end) (play_so task index play.posts run)
 
       by_end : play.posts ≡ [] → (pe : PlayEnd) → play.end ≡ pe → Done
       by_end none plays.Done pe = over (given_to w lacks es e step go_on _ turns (ap (work_ask e.actor) work ∙ rw (none, pe) refl))
         where
           over : Given w es e (at_place (places.Arbiter task.arbiter) (asks.Over task.id task.root hows.Done)) → Done
           over got = let note = over_note w task.id task.root hows.Done task.arbiter (slice_get w.arbiters task.arbiter) (notes_at es (places.Arbiter task.arbiter)) e.note got.gives in
-              ends_by task.arbiter task place play hows.Done ends.Done work none turns run (rw (turns, work, none, pe) refl) refl (rw (sym end_so ∙ pe) refl) got.there (rw note refl) refl note
+              ends_by task.arbiter task index play hows.Done ends.Done work none turns run (rw (turns, work, none, pe) refl) refl (rw (sym end_so ∙ pe) refl) got.there (rw note refl) refl note
       by_end none (plays.Failed v) pe = over (given_to w lacks es e step go_on _ turns (ap (work_ask e.actor) work ∙ rw (none, pe) refl))
         where
           over : Given w es e (at_place (places.Arbiter task.arbiter) (asks.Over task.id task.root (hows.Failed v))) → Done
           over got = let note = over_note w task.id task.root (hows.Failed v) task.arbiter (slice_get w.arbiters task.arbiter) (notes_at es (places.Arbiter task.arbiter)) e.note got.gives in
-              ends_by task.arbiter task place play (hows.Failed v) (ends.Failed v) work none turns run (rw (turns, work, none, pe) refl) refl (rw (sym end_so ∙ pe) (same_value-self v)) got.there (rw note refl) refl note
+              ends_by task.arbiter task index play (hows.Failed v) (ends.Failed v) work none turns run (rw (turns, work, none, pe) refl) refl (rw (sym end_so ∙ pe) (same_value-self v)) got.there (rw note refl) refl note
       by_end none (plays.Yield site) pe = suspends (given_to w lacks es e step go_on _ turns (ap (work_ask e.actor) work ∙ rw (none, pe) refl))
         where
           all : length (play_of w h task.id).posts ≤ posts_of_task h task.id
-          all = subst (λ k. length (play_of w h task.id).posts ≤ k) run.place_so (subst (λ (p : Play). length p.posts ≤ place) (play_so task place play.posts run) (drop-end place (play_in w task).posts (sym none ∙ run.left_so)))
+          all = subst (λ k. length (play_of w h task.id).posts ≤ k) run.index_so (subst (λ (p : Play). length p.posts ≤ index) (play_so task index play.posts run) (drop-end index (play_in w task).posts (sym none ∙ run.left_so)))
 
           inside : {a b : Note} → Some a ≡ Some b → b ≡ a
           inside same = cc
@@ -250,7 +250,7 @@ module _ (w : Parts) (n : ℕ) (first : PlainFacts w) (few : n ≤ 33) (lacks : 
           suspends : Given w es e (at_place (places.Site (branch_of task.spot) (segment_of task.spot)) (asks.Suspend (record task { causes = play.causes }))) → Done
           suspends got =
               let note : e.note ≡ notes.Suspend task.id = inside got.gives in
-              step_suspend w n first few lacks es e low holds task place play.posts got.there note turns run (rw work refl) (rw (turns, work, none, pe) refl)
+              step_suspend w n first few lacks es e low holds task index play.posts got.there note turns run (rw work refl) (rw (turns, work, none, pe) refl)
               (end_allowed w h task.id ends.Yield (runs h e.actor task.id run.alone) all refl (rw (sym end_so ∙ pe) refl)) (first.sites_so task site (sym is.1 ∙ pe))
 
       by_posts : (ps : List Sent) → play.posts ≡ ps → Done
@@ -263,8 +263,8 @@ module _ (w : Parts) (n : ℕ) (first : PlainFacts w) (few : n ≤ 33) (lacks : 
           draws : Given w es e (at_place places.Meter asks.Draw) → Done
           draws got = by_room (nat_lt (meter_at w es).drawn (meter_at w es).budget) refl (inside got.gives)
             where
-              posting_run : RunsTask w h e.actor task place (sent ∷ ps)
-              posting_run = subst (RunsTask w h e.actor task place) some run
+              posting_run : RunsTask w h e.actor task index (sent ∷ ps)
+              posting_run = subst (RunsTask w h e.actor task index) some run
 
               by_room : (c : Bool) → nat_lt (meter_at w es).drawn (meter_at w es).budget ≡ c → e.note ≡ notes.Draw (if nat_lt (meter_at w es).drawn (meter_at w es).budget then Some (meter_at w es).drawn else None) → Done
               by_room true room note_so =
@@ -274,7 +274,7 @@ module _ (w : Parts) (n : ℕ) (first : PlainFacts w) (few : n ≤ 33) (lacks : 
                   (ap (λ (m : meters.MeterState). m.budget) (at_meter _ got.there note))
                 where
                   next : State
-                  next = record before { work = posting task place (record play { posts = ps }) sent }
+                  next = record before { work = posting task index (record play { posts = ps }) sent }
 
                   note : e.note ≡ notes.Draw (Some (meter_at w es).drawn)
                   note = rw room at note_so
@@ -282,7 +282,7 @@ module _ (w : Parts) (n : ℕ) (first : PlainFacts w) (few : n ≤ 33) (lacks : 
                   below : (meter_at w es).drawn < w.budget
                   below = let same = holds.budget in let less : (meter_at w es).drawn < (meter_at w es).budget = grind (arith, nat_tests, room) in omega (arith, less, same)
               by_room false room note_so =
-                  silent_metered w n lacks es e low holds next (λ t is. is) (DomainsMatch-elsewhere w h es e places.Meter got.there refl holds.domains) (rw note refl) (rw (turns, work, note, some) refl) (rw (same_ports es e places.Meter got.there refl) holds.ports) (rw (same_queues w es e places.Meter got.there refl) holds.queues) (rw (same_ports es e places.Meter got.there refl) (go_on_own next turns (record { hand = refl; phase = refl; attempt = refl; spots_so = own.fits.spots_so }) (place, sent, ps, posting_run))) (λ a other. rw (same_ports es e places.Meter got.there refl) (holds.actors a))
+                  silent_metered w n lacks es e low holds next (λ t is. is) (DomainsMatch-elsewhere w h es e places.Meter got.there refl holds.domains) (rw note refl) (rw (turns, work, note, some) refl) (rw (same_ports es e places.Meter got.there refl) holds.ports) (rw (same_queues w es e places.Meter got.there refl) holds.queues) (rw (same_ports es e places.Meter got.there refl) (go_on_own next turns (record { hand = refl; phase = refl; attempt = refl; spots_so = own.fits.spots_so }) (index, sent, ps, posting_run))) (λ a other. rw (same_ports es e places.Meter got.there refl) (holds.actors a))
                   (goes_under_way w n lacks es e low holds places.Meter next got.there refl turns (record { hand = refl; phase = refl; attempt = refl; spots_so = own.fits.spots_so }))
                   (λ works' one. subst (λ k. MeterMatches w n h k works') (sym (ap (λ (m : meters.MeterState). m.drawn) (at_meter _ got.there note))) (MeterMatches-spent w n h (meter_at w es).drawn e.actor (works_of w lacks es) works' next.work low full (rw work refl) refl one holds.meter))
                   (ap (λ (m : meters.MeterState). m.budget) (at_meter _ got.there note))
@@ -297,23 +297,23 @@ module _ (w : Parts) (n : ℕ) (first : PlainFacts w) (few : n ≤ 33) (lacks : 
                   full = let same = holds.budget in let le : (meter_at w es).budget ≤ (meter_at w es).drawn = grind (arith, nat_tests, room) in omega (arith, le, same)
 
   -- a post of a task
-  posting_kept : (task : Task) (place : ℕ) (play : Play) (sent : Sent) → before.work ≡ posting task place play sent → turn before ≡ go_on → RunsTask w h e.actor task place (sent ∷ play.posts) × (play.end ≡ (play_in w task).end) → Done
-  posting_kept task place play sent work turns is = post (given_to w lacks es e step go_on _ turns (ap (work_ask e.actor) work))
+  posting_kept : (task : Task) (index : ℕ) (play : Play) (sent : Sent) → before.work ≡ posting task index play sent → turn before ≡ go_on → RunsTask w h e.actor task index (sent ∷ play.posts) × (play.end ≡ (play_in w task).end) → Done
+  posting_kept task index play sent work turns is = post (given_to w lacks es e step go_on _ turns (ap (work_ask e.actor) work))
     where
-      run : RunsTask w h e.actor task place (sent ∷ play.posts)
+      run : RunsTask w h e.actor task index (sent ∷ play.posts)
       run = is.0
 
       m : Msg
-      m = task_message task.id place sent
+      m = task_message task.id index sent
 
       next : State
-      next = record (driving before (spots_at w sent.port)) { work = playing task (place + 1) play }
+      next = record (driving before (spots_at w sent.port)) { work = playing task (index + 1) play }
 
-      rest : (slice_get (play_in w task).posts place ≡ Some sent) × (play.posts ≡ drop (suc place) (play_in w task).posts) × (place < length (play_in w task).posts)
-      rest = drop-next place (play_in w task).posts sent play.posts run.left_so
+      rest : (slice_get (play_in w task).posts index ≡ Some sent) × (play.posts ≡ drop (suc index) (play_in w task).posts) × (index < length (play_in w task).posts)
+      rest = drop-next index (play_in w task).posts sent play.posts run.left_so
 
-      line : slice_get (play_of w h task.id).posts place ≡ Some sent
-      line = ap (λ (p : Play). slice_get p.posts place) (sym (play_so task place (sent ∷ play.posts) run)) ∙ rest.0
+      line : slice_get (play_of w h task.id).posts index ≡ Some sent
+      line = ap (λ (p : Play). slice_get p.posts index) (sym (play_so task index (sent ∷ play.posts) run)) ∙ rest.0
 
       posts_now : is_posting before.work ≡ true
       posts_now = rw work refl
@@ -330,27 +330,27 @@ module _ (w : Parts) (n : ℕ) (first : PlainFacts w) (few : n ≤ 33) (lacks : 
           let note = (given_some _ (notes.Post m) e.note got.gives).1 in
           step_post w n lacks es e low holds m next got.there note turns (rw (turns, work) refl)
           (record { hand = refl; phase = refl; attempt = refl; spots_so = λ s among. first.places_so s (Among-kept (takes_from w sent.port) (spots w) s among) })
-          (play_allowed w h task.id place sent (runs h e.actor task.id run.alone) line run.place_so room) run.place_so (
+          (play_allowed w h task.id index sent (runs h e.actor task.id run.alone) line run.index_so room) run.index_so (
             record {
               worker = run.worker;
               alone = (quiet_post m).0 ∙ run.alone;
               fires = (quiet_post m).1;
               as_seen = run.as_seen ∙ sym (view-stays w h (events.Post m ∷ []) task.id run.fires);
-              place_so = ap (λ k. k + 1) run.place_so ∙ sym (task_own h m task.id place refl);
-              left_so = rest.1 ∙ ap (λ k. drop k (play_in w task).posts) (suc-one place);
+              index_so = ap (λ k. k + 1) run.index_so ∙ sym (task_own h m task.id index refl);
+              left_so = rest.1 ∙ ap (λ k. drop k (play_in w task).posts) (suc-one index);
             },
             is.1,
           )
-          (λ a other. task_says h m a e.actor place task.id (AreStarted-legal w h holds.legal) refl run.alone other)
-          (λ works' one. MeterMatches-post w n h (h ++ events.Post m ∷ []) (meter_at w es).drawn e.actor (works_of w lacks es) works' (playing task (place + 1) play) low (rw (posts-push h (events.Post m)) (posts_task (posts h) m refl)) posts_now refl refl one holds.meter)
+          (λ a other. task_says h m a e.actor index task.id (AreStarted-legal w h holds.legal) refl run.alone other)
+          (λ works' one. MeterMatches-post w n h (h ++ events.Post m ∷ []) (meter_at w es).drawn e.actor (works_of w lacks es) works' (playing task (index + 1) play) low (rw (posts-push h (events.Post m)) (posts_task (posts h) m refl)) posts_now refl refl one holds.meter)
         where
           quiet_post : (m : Msg) → (running_by (h ++ events.Post m ∷ []) e.actor ≡ running_by h e.actor) × IsFired (h ++ events.Post m ∷ []) task.id
           quiet_post m = (running_by-push h (events.Post m) e.actor ∙ rw (append-nil (starts h e.actor), append-nil (ended h)) refl, IsFired-append h (events.Post m ∷ []) task.id run.fires)
 
   -- ---- a task that is shed
 
-  sheds : (task : Task) (place : ℕ) (sent : Sent) (ps : List Sent) → before.work ≡ shedding task → turn before ≡ go_on → RunsTask w h e.actor task place (sent ∷ ps) → Done
-  sheds task place sent ps work turns run = over (given_to w lacks es e step go_on _ turns (ap (work_ask e.actor) work))
+  sheds : (task : Task) (index : ℕ) (sent : Sent) (ps : List Sent) → before.work ≡ shedding task → turn before ≡ go_on → RunsTask w h e.actor task index (sent ∷ ps) → Done
+  sheds task index sent ps work turns run = over (given_to w lacks es e step go_on _ turns (ap (work_ask e.actor) work))
     where
       works : ℕ → Work
       works = works_of w lacks es
@@ -373,14 +373,14 @@ module _ (w : Parts) (n : ℕ) (first : PlainFacts w) (few : n ≤ 33) (lacks : 
           left : has_post_left w h t.id ≡ true
           left =
               let less : k < length (play_of w h t.id).posts = subst (λ (p : Play). k < length p.posts) (ap (play_in w) r.as_seen ∙ play-view w h t.id r.fires) below in
-              let count = r.place_so in
+              let count = r.index_so in
               grind (arith, nat_tests, less, count)
 
       busy_runs : (a : ℕ) → busy a ≡ true → (t : Task) × (task_of (works a) ≡ t.id) × (running_by h a ≡ t.id ∷ []) × (has_task (unfinished w h) t.id ≡ true)
       busy_runs a is = by (works a) refl (holds.actors a).work is
         where
           shed_here : (wk : Work) → works a ≡ wk → is_posting wk ≡ false → a ≡ e.actor → (t : Task) × (task_of (works a) ≡ t.id) × (running_by h a ≡ t.id ∷ []) × (has_task (unfinished w h) t.id ≡ true)
-          shed_here wk at_a unposting same = (task, ap task_of (ap works same ∙ work), ap (running_by h) same ∙ run.alone, left_at e.actor task place sent ps run)
+          shed_here wk at_a unposting same = (task, ap task_of (ap works same ∙ work), ap (running_by h) same ∙ run.alone, left_at e.actor task index sent ps run)
 
           of_or : (wk : Work) → works a ≡ wk → is_posting wk ≡ false → is_posting wk || (a == e.actor) ≡ true → (t : Task) × (task_of (works a) ≡ t.id) × (running_by h a ≡ t.id ∷ []) × (has_task (unfinished w h) t.id ≡ true)
           of_or wk at_a out now = shed_here wk at_a out (same_number a e.actor (rw out at now))
@@ -424,11 +424,11 @@ module _ (w : Parts) (n : ℕ) (first : PlainFacts w) (few : n ≤ 33) (lacks : 
       over : Given w es e (at_place (places.Arbiter task.arbiter) (asks.Over task.id task.root hows.Shed)) → Done
       over got =
           let note = over_note w task.id task.root hows.Shed task.arbiter (slice_get w.arbiters task.arbiter) (notes_at es (places.Arbiter task.arbiter)) e.note got.gives in
-          step_end w n first few lacks es e low holds task.arbiter task place (sent ∷ ps) ends.Shed hows.Shed note got.there (rw note refl) refl turns run (rw work refl) (rw (turns, work) refl)
+          step_end w n first few lacks es e low holds task.arbiter task index (sent ∷ ps) ends.Shed hows.Shed note got.there (rw note refl) refl turns run (rw work refl) (rw (turns, work) refl)
           (shed_allowed w h task.id (runs h e.actor task.id run.alone) some paid)
         where
           some : posts_of_task h task.id < length (play_of w h task.id).posts
-          some = subst (λ k. k < length (play_of w h task.id).posts) run.place_so (subst (λ (p : Play). place < length p.posts) (play_so task place (sent ∷ ps) run) (drop-next place (play_in w task).posts sent ps run.left_so).2)
+          some = subst (λ k. k < length (play_of w h task.id).posts) run.index_so (subst (λ (p : Play). index < length p.posts) (play_so task index (sent ∷ ps) run) (drop-next index (play_in w task).posts sent ps run.left_so).2)
 
   -- ---- all turns
 
@@ -436,13 +436,13 @@ module _ (w : Parts) (n : ℕ) (first : PlainFacts w) (few : n ≤ 33) (lacks : 
   go_on_kept turns = by before.work refl own.work
     where
       by : (wk : Work) → before.work ≡ wk → WorkMatches w h e.actor before.work → Done
-      by (lines place sents) work match = line_kept place sents work turns (rw work at match)
+      by (lines index sents) work match = line_kept index sents work turns (rw work at match)
       by round work match = round_kept work turns (rw work at match)
       by (taking left q parts) work match = take_kept left q parts work turns (rw work at match)
-      by (playing task place play) work match = play_kept task place play work turns (rw work at match)
-      by (posting task place play sent) work match = posting_kept task place play sent work turns (rw work at match)
+      by (playing task index play) work match = play_kept task index play work turns (rw work at match)
+      by (posting task index play sent) work match = posting_kept task index play sent work turns (rw work at match)
       by (shedding task) work match = of_match (rw work at match)
         where
-          of_match : (place : ℕ) × (sent : Sent) × (ps : List Sent) × RunsTask w h e.actor task place (sent ∷ ps) → Done
+          of_match : (index : ℕ) × (sent : Sent) × (ps : List Sent) × RunsTask w h e.actor task index (sent ∷ ps) → Done
           of_match m = sheds task m.0 m.1 m.2 work turns m.3
       by resting work match = absurd (let asks_so = subst (λ u. ask_in w e.actor before u ≡ Some step.asking) turns step.asks in let none : ask_in w e.actor before go_on ≡ None = ap (work_ask e.actor) work in no_some _ step.asking none asks_so)

@@ -1,5 +1,5 @@
 -- Each next ask of a run names what the wiring has, and is meant for a place that it has.
-use Rattle.std.proofs.Common.{◌⊎◌, inl, inr, ◌≡◌, ◌<◌, ◌^◌, ℕ, suc, Bool, true, false, not, ◌&&◌, ◌||◌, List, [], ◌∷◌, ◌++◌, length, map, Option, Some, None, refl, sym, arith, ap, ◌∙◌, subst}
+use Rattle.std.proofs.Common.{◌⊎◌, inl, inr, ◌≡◌, ◌<◌, ◌^◌, ℕ, Bool, true, false, not, ◌&&◌, ◌||◌, List, [], ◌∷◌, ◌++◌, length, map, Option, Some, None, refl, sym, arith, ap, ◌∙◌, subst}
 use Rattle.std.specs.Prelude.{if◌then◌else◌, nat_lt, slice_get}
 use Rattle.std.specs.FinSet as set
 use Rattle.std.specs.Option.{option_map_or}
@@ -30,7 +30,7 @@ use Rattle.ccr_wiring.proofs.Soundness.{sound}
 use Rattle.ccr_model.specs.declared.history.Event.{Event}
 use Rattle.ccr_model.specs.Posts.{posts}
 use Rattle.ccr_model.specs.TaskData.{play_of}
-use Rattle.ccr_model.proofs.Members.{Among, Among-at, Among-right}
+use Rattle.ccr_model.proofs.Members.{Among, Among-at, Among-right, index_of}
 use Rattle.ccr_places.specs.declared.notes.Note.{Note}
 use Rattle.ccr_places.specs.declared.notes.Note.TheVariants as notes
 use Rattle.ccr_places.specs.TaskSets.{task_cmp}
@@ -200,14 +200,9 @@ ports_low w all (Branch b) fits p is =
     let there : Among p (ports_in fits.0.branch.pattern) = subst (λ (x : Pattern). Among p (ports_in x)) (ap (λ o. option_map_or (λ (s : Placement). s.branch.pattern) o (Slots [])) fits.1) is in
     of_pattern fits.0.branch.pattern refl there
   where
-    place_of : (xs : List ℕ) (x : ℕ) → Among x xs → (k : ℕ) × (slice_get xs k ≡ Some x)
-    place_of [] x is = absurd is
-    place_of (y ∷ xs) x (inl e) = (0, ap Some (sym e))
-    place_of (y ∷ xs) x (inr more) = let found = place_of xs x more in (suc found.0, found.1)
-
     of_pattern : (pattern : Pattern) → fits.0.branch.pattern ≡ pattern → Among p (ports_in fits.0.branch.pattern) → p < length w.ports
-    of_pattern (Slots slots) same there = let found = place_of (map (λ (s : Slot). s.port) slots) p (subst (λ (x : Pattern). Among p (ports_in x)) same there) in all.pattern_ports b fits.0 found.0 p fits.1 (rw same found.1)
-    of_pattern (Gather total first second) same there = let found = place_of (first ∷ second ∷ []) p (subst (λ (x : Pattern). Among p (ports_in x)) same there) in all.pattern_ports b fits.0 found.0 p fits.1 (rw same found.1)
+    of_pattern (Slots slots) same there = let found = index_of (map (λ (s : Slot). s.port) slots) p (subst (λ (x : Pattern). Among p (ports_in x)) same there) in all.pattern_ports b fits.0 found.0 p fits.1 (rw same found.1)
+    of_pattern (Gather total first second) same there = let found = index_of (first ∷ second ∷ []) p (subst (λ (x : Pattern). Among p (ports_in x)) same there) in all.pattern_ports b fits.0 found.0 p fits.1 (rw same found.1)
 ports_low w all (Site b k) fits p is = of_one (rw fits.1 at is)
   where
     of_one : Among p (fits.0 ∷ []) → p < length w.ports
@@ -318,22 +313,22 @@ module _ (w : Parts) (valid : IsValid w) (plain : PlainFacts w) (n : ℕ) (lacks
   sent_named : (sent : Sent) (m : Msg) → IsSentFine w all sent → m.port ≡ sent.port → m.causes ≡ sent.causes → IsNamed w (record { place = places.Port sent.port; ask = asks.Post m })
   sent_named sent m fine port causes = record { place = fine.port; ask = (subst (λ p. p < length w.ports) (sym port) fine.port, subst (AreCausesOf w) (sym causes) (fine_causes w sent.causes fine.causes)) }
 
-  task_domain : (task : Task) (place : ℕ) (left : List Sent) → RunsTask w h a task place left → IsDomain w task.arbiter
-  task_domain task place left run = subst (λ (t : Task). IsDomain w t.arbiter) (sym run.as_seen) (view_domain w all h holds.legal task.id run.fires)
+  task_domain : (task : Task) (index : ℕ) (left : List Sent) → RunsTask w h a task index left → IsDomain w task.arbiter
+  task_domain task index left run = subst (λ (t : Task). IsDomain w t.arbiter) (sym run.as_seen) (view_domain w all h holds.legal task.id run.fires)
 
-  play_so : (task : Task) (place : ℕ) (left : List Sent) → RunsTask w h a task place left → play_in w task ≡ play_of w h task.id
-  play_so task place left run = ap (play_in w) run.as_seen ∙ play-view w h task.id run.fires
+  play_so : (task : Task) (index : ℕ) (left : List Sent) → RunsTask w h a task index left → play_in w task ≡ play_of w h task.id
+  play_so task index left run = ap (play_in w) run.as_seen ∙ play-view w h task.id run.fires
 
   over_named : (task : Task) (how : How) → IsDomain w task.arbiter → IsNamed w (record { place = places.Arbiter task.arbiter; ask = asks.Over task.id task.root how })
   over_named task how one = record { place = domain_place w valid task.arbiter one; ask = tt }
 
-  end_named : (task : Task) (place : ℕ) (play : Play) → RunsTask w h a task place play.posts → play.end ≡ (play_in w task).end → play.causes ≡ (play_in w task).causes → (end : PlayEnd) → play.end ≡ end → IsNamed w (end_ask task play end)
-  end_named task place play run ends causes plays.Done is = over_named task _ (task_domain task place play.posts run)
-  end_named task place play run ends causes (plays.Failed v) is = over_named task _ (task_domain task place play.posts run)
-  end_named task place play run ends causes (plays.Yield site) is = record { place = plain.sites_so task site (sym ends ∙ is); ask = subst (IsTaskOf w) (sym same) (suspended_known w all h holds.legal task.id run.fires valid) }
+  end_named : (task : Task) (index : ℕ) (play : Play) → RunsTask w h a task index play.posts → play.end ≡ (play_in w task).end → play.causes ≡ (play_in w task).causes → (end : PlayEnd) → play.end ≡ end → IsNamed w (end_ask task play end)
+  end_named task index play run ends causes plays.Done is = over_named task _ (task_domain task index play.posts run)
+  end_named task index play run ends causes (plays.Failed v) is = over_named task _ (task_domain task index play.posts run)
+  end_named task index play run ends causes (plays.Yield site) is = record { place = plain.sites_so task site (sym ends ∙ is); ask = subst (IsTaskOf w) (sym same) (suspended_known w all h holds.legal task.id run.fires valid) }
     where
       whole : play.causes ≡ (play_of w h task.id).causes
-      whole = causes ∙ ap (λ (p : Play). p.causes) (play_so task place play.posts run)
+      whole = causes ∙ ap (λ (p : Play). p.causes) (play_so task index play.posts run)
 
       same : record task { causes = play.causes } ≡ suspended_view w h task.id
       same = λ j. record (run.as_seen j) { causes = whole j }
@@ -344,21 +339,21 @@ module _ (w : Parts) (valid : IsValid w) (plain : PlainFacts w) (n : ℕ) (lacks
       one : (y : Asked) → IsNamed w y → Some y ≡ Some x → IsNamed w x
       one y named same = subst (IsNamed w) (inside same) named
 
-      of_posts : (task : Task) (place : ℕ) (play : Play) → RunsTask w h a task place play.posts → play.end ≡ (play_in w task).end → play.causes ≡ (play_in w task).causes → (ps : List Sent) → IsNamed w (play_ask task play ps)
-      of_posts task place play run ends causes [] = end_named task place play run ends causes play.end refl
-      of_posts task place play run ends causes (sent ∷ ps) = record { place = tt; ask = tt }
+      of_posts : (task : Task) (index : ℕ) (play : Play) → RunsTask w h a task index play.posts → play.end ≡ (play_in w task).end → play.causes ≡ (play_in w task).causes → (ps : List Sent) → IsNamed w (play_ask task play ps)
+      of_posts task index play run ends causes [] = end_named task index play run ends causes play.end refl
+      of_posts task index play run ends causes (sent ∷ ps) = record { place = tt; ask = tt }
 
       by : (work : Work) → WorkMatches w h a work → WorkReaches w work → CausesTell w work → work_ask a work ≡ Some x → IsNamed w x
-      by (lines place []) match low tells is = one _ (record { place = tt; ask = tt }) is
-      by (lines place (sent ∷ sents)) match low tells is =
-          let line = (drop-next place match.poster.posts sent sents match.left_so).0 in
-          one _ (sent_named sent _ (script_fine w all a match.poster place sent match.is_poster line) refl refl) is
+      by (lines index []) match low tells is = one _ (record { place = tt; ask = tt }) is
+      by (lines index (sent ∷ sents)) match low tells is =
+          let line = (drop-next index match.poster.posts sent sents match.left_so).0 in
+          one _ (sent_named sent _ (script_fine w all a match.poster index sent match.is_poster line) refl refl) is
       by round match low tells is = one _ (record { place = tt; ask = tt }) is
       by (taking left q more) match low tells is = one _ (record { place = omega (arith, low); ask = tt }) is
-      by (playing task place play) match low tells is = one _ (of_posts task place play match.0 match.1 tells play.posts) is
-      by (posting task place play sent) match low tells is =
-          let line = (drop-next place (play_in w task).posts sent play.posts match.0.left_so).0 in
-          let there : Among sent (play_of w h task.id).posts = subst (λ (p : Play). Among sent p.posts) (play_so task place (sent ∷ play.posts) match.0) (Among-at (play_in w task).posts place sent line) in
+      by (playing task index play) match low tells is = one _ (of_posts task index play match.0 match.1 tells play.posts) is
+      by (posting task index play sent) match low tells is =
+          let line = (drop-next index (play_in w task).posts sent play.posts match.0.left_so).0 in
+          let there : Among sent (play_of w h task.id).posts = subst (λ (p : Play). Among sent p.posts) (play_so task index (sent ∷ play.posts) match.0) (Among-at (play_in w task).posts index sent line) in
           one _ (sent_named sent _ ((play_of-fine w all h (posted_fine w all h holds.legal) task.id).posts sent there) refl refl) is
       by (shedding task) match low tells is = one _ (over_named task _ (task_domain task match.0 (match.1 ∷ match.2) match.3)) is
       by resting match low tells is = absurd (cc)

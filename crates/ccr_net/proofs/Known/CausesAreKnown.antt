@@ -1,7 +1,6 @@
 -- Along a legal history each message names a port and causes of the wiring, and so does each play; no cause stands twice.
 use Rattle.std.proofs.Common.{◌⊎◌, inl, inr, ◌≡◌, ◌<◌, ℕ, zero, suc, Bool, true, false, not, ◌&&◌, ◌||◌, List, [], ◌∷◌, ◌++◌, length, filter, flat_map, Option, Some, None, refl, sym, arith, ap, ◌∙◌, subst}
-use Rattle.std.specs.Prelude.{◌==◌, All, if◌then◌else◌, find, option_map, option_to_list, slice_get}
-use Rattle.std.specs.List.{cons_option}
+use Rattle.std.specs.Prelude.{◌==◌, All, if◌then◌else◌, option_map, option_to_list, slice_get}
 use Rattle.std.specs.Option.{option_and_then, option_map_or}
 use Rattle.std.proofs.lemmas.Bool.Decides.{nat_tests}
 use Rattle.std.proofs.lemmas.List.Elements.{All-cons, All-nil}
@@ -14,7 +13,7 @@ use Rattle.ccr_base.specs.declared.names.MsgId.TheVariants as names
 use Rattle.ccr_base.specs.declared.names.Spot.{Spot}
 use Rattle.ccr_base.specs.declared.names.Spot.TheVariants.{Site}
 use Rattle.ccr_base.specs.declared.names.TaskId.{TaskId}
-use Rattle.ccr_base.specs.Names.{has_task, same_lists, same_message}
+use Rattle.ccr_base.specs.Names.{has_task, same_lists}
 use Rattle.ccr_base.specs.Values.{same_value}
 use Rattle.ccr_cause.specs.Causes.{union, with_cause, without_cause}
 use Rattle.ccr_handler.specs.declared.segments.Play.{Play}
@@ -27,19 +26,20 @@ use Rattle.ccr_wiring.specs.Wirings.{Placement, actions_of, branch_of, exception
 use Rattle.ccr_wiring.proofs.Apart.{apart_snoc}
 use Rattle.ccr_model.specs.declared.history.Event.{Event}
 use Rattle.ccr_model.specs.declared.history.Event.TheVariants as events
-use Rattle.ccr_model.specs.Firings.{Firing, firing_named, spot_of}
+use Rattle.ccr_model.specs.Firings.{spot_of}
 use Rattle.ccr_model.specs.Legal.{IsAllowed, IsLegal}
-use Rattle.ccr_model.specs.Posts.{message_named, messages_named, post_of, posts, posts_of_poster, posts_of_task}
+use Rattle.ccr_model.specs.Posts.{post_of, posts, posts_of_poster, posts_of_task}
 use Rattle.ccr_model.specs.Rules.{is_play_post, is_post, is_script_line, refusal_of_post}
-use Rattle.ccr_model.specs.Sites.{before, is_firing_of, resumed}
+use Rattle.ccr_model.specs.Sites.{resumed}
 use Rattle.ccr_model.specs.TaskData.{Load, load_after, load_at, load_of, messages_of, no_load, no_play, play_at, play_of, with_messages}
 use Rattle.ccr_model.specs.Tasks.{running}
 use Rattle.ccr_base.proofs.Booleans.{both, same_number, not_true}
-use Rattle.ccr_model.proofs.Members.{Among, Among-either, Among-at, Among-left, Among-right, Among-kept}
+use Rattle.ccr_model.proofs.Members.{Among, Among-either, Among-at, Among-kept, index_of}
 use Rattle.ccr_base.proofs.Options.{some_of, some_then}
 use Rattle.ccr_base.specs.Lists.{has_number, are_apart}
 use Rattle.ccr_model.proofs.PostNames.{along, refused_not}
 use Rattle.ccr_model.proofs.OneMoreEvent.{posts-push}
+use Rattle.ccr_model.proofs.TakenWerePosted.{took_among}
 use Rattle.ccr_claim.specs.Wired.{AreCausesOf}
 
 -- ---- lists of causes
@@ -147,17 +147,12 @@ module _ (w : Parts) (all : IsSound w) where
   from_among zero acts a is = is
   from_among (suc k) acts a is = from_among k acts a (after_among (actions_from k acts) a is)
 
-  place_of : {X : Type 0} (xs : List X) (x : X) → Among x xs → (k : ℕ) × (slice_get xs k ≡ Some x)
-  place_of [] x is = absurd is
-  place_of (y ∷ xs) x (inl e) = (0, ap Some (sym e))
-  place_of (y ∷ xs) x (inr more) = let found = place_of xs x more in (suc found.0, found.1)
-
   at_named : (b : ℕ) (a : Action) → Among a (actions_at w b) → IsActionNamed w a
   at_named b a is = of_placement (placement w b) is
     where
       of_placement : (o : Option Placement) → Among a (option_map_or (λ (s : Placement). actions_of w s.branch.handler) o []) → IsActionNamed w a
       of_placement None none = absurd none
-      of_placement (Some s) there = let found = place_of (actions_of w s.branch.handler) a there in all.actions s.branch.handler found.0 a found.1
+      of_placement (Some s) there = let found = index_of (actions_of w s.branch.handler) a there in all.actions s.branch.handler found.0 a found.1
 
   pub play_at-fine : (b k : ℕ) (load : Load) → AreFine (length w.causes) load.causes → IsPlayFine (play_at w b k load)
   play_at-fine b k load fine = play_fine load.values k load.causes (actions_from k (actions_at w b)) (λ a is. at_named b a (from_among k (actions_at w b) a is)) fine
@@ -167,45 +162,6 @@ module _ (w : Parts) (all : IsSound w) where
   -- each posted message names what the wiring has
   abbrev pub ArePosted : List Event → Type 0
   ArePosted h = (m : Msg) → Among m (posts h) → (m.port < length w.ports) × AreFine (length w.causes) m.causes
-
-  before_posts : (t : TaskId) (h : List Event) (m : Msg) → Among m (posts (before t h)) → Among m (posts h)
-  before_posts t [] m is = absurd is
-  before_posts t (e ∷ h) m is = by (is_firing_of t e) is (before_posts t h m)
-    where
-      by : (b : Bool) → Among m (posts (if b then [] else e ∷ before t h)) → (Among m (posts (before t h)) → Among m (posts h)) → Among m (post_of e ++ posts h)
-      by true none rest = absurd none
-      by false there rest = of (Among-either m (post_of e) (posts (before t h)) there)
-        where
-          of : Among m (post_of e) ⊎ Among m (posts (before t h)) → Among m (post_of e ++ posts h)
-          of (inl here) = Among-left m (post_of e) (posts h) here
-          of (inr later) = Among-right m (post_of e) (posts h) (rest later)
-
-  found_among : (p : Msg → Bool) (ms : List Msg) (m : Msg) → find p ms ≡ Some m → Among m ms
-  found_among p [] m is = absurd (cc)
-  found_among p (x ∷ ms) m is = by (p x) is (found_among p ms m)
-    where
-      inside : {a b : Msg} → Some a ≡ Some b → b ≡ a
-      inside e = cc
-
-      by : (b : Bool) → (if b then Some x else find p ms) ≡ Some m → (find p ms ≡ Some m → Among m ms) → Among m (x ∷ ms)
-      by true here rest = inl (inside here)
-      by false later rest = inr (rest later)
-
-  named_among : (h : List Event) (ns : List MsgId) (m : Msg) → Among m (messages_named h ns) → Among m (posts h)
-  named_among h [] m is = absurd is
-  named_among h (name ∷ ns) m is = by (message_named h name) refl is (named_among h ns m)
-    where
-      by : (o : Option Msg) → message_named h name ≡ o → Among m (cons_option o (messages_named h ns)) → (Among m (messages_named h ns) → Among m (posts h)) → Among m (posts h)
-      by None at there rest = rest there
-      by (Some x) at (inl e) rest = subst (λ y. Among y (posts h)) (sym e) (found_among (λ (y : Msg). same_message y.id name) (posts h) x at)
-      by (Some x) at (inr later) rest = rest later
-
-  took_among : (h : List Event) (t : TaskId) (m : Msg) → Among m (messages_of h t) → Among m (posts h)
-  took_among h t m is = by (firing_named h t) is
-    where
-      by : (o : Option Firing) → Among m (option_map_or (λ (f : Firing). messages_named (before t h) f.messages) o []) → Among m (posts h)
-      by None none = absurd none
-      by (Some f) there = before_posts t h m (named_among (before t h) f.messages m there)
 
   pub causes_below : (ms : List Msg) → ((m : Msg) → Among m ms → AreFine (length w.causes) m.causes) → (c : ℕ) → Among c (flat_map (λ (m : Msg). m.causes) ms) → c < length w.causes
   causes_below [] fine c is = absurd is
@@ -254,10 +210,10 @@ module _ (w : Parts) (all : IsSound w) where
       let one = both (m.port == sent.port) (same_value m.value sent.value) two.0 in
       (subst (λ p. p < length w.ports) (sym (same_number m.port sent.port one.0)) fine.port, subst (AreFine (length w.causes)) (sym (same_causes m.causes sent.causes two.1)) fine.causes)
 
-  pub script_fine : (poster : ℕ) (part : PosterPart) (place : ℕ) (sent : Sent) → slice_get w.posters poster ≡ Some part → slice_get part.posts place ≡ Some sent → IsSentFine sent
-  script_fine poster part place sent is line =
-      let named = all.scripts poster place part sent is line in
-      record { port = named.port; causes = record { below = λ c there. (let at = place_of sent.causes c there in named.causes at.0 c at.1); apart = named.apart } }
+  pub script_fine : (poster : ℕ) (part : PosterPart) (index : ℕ) (sent : Sent) → slice_get w.posters poster ≡ Some part → slice_get part.posts index ≡ Some sent → IsSentFine sent
+  script_fine poster part index sent is line =
+      let named = all.scripts poster index part sent is line in
+      record { port = named.port; causes = record { below = λ c there. (let at = index_of sent.causes c there in named.causes at.0 c at.1); apart = named.apart } }
 
   post_allowed : (h : List Event) (m : Msg) → ArePosted h → (name : MsgId) → refusal_of_post w h m name ≡ None → (m.port < length w.ports) × AreFine (length w.causes) m.causes
   post_allowed h m known (names.Script a k) allowed =

@@ -11,7 +11,7 @@ use Rattle.ccr_wiring.specs.declared.parts.DomainPart.{DomainPart}
 use Rattle.ccr_wiring.specs.declared.parts.Parts.{Parts}
 use Rattle.ccr_wiring.specs.Domains.{domain_of}
 use Rattle.ccr_wiring.specs.Wirings.{Placement, actions_of, awaited, placements, sites_from, spots, spots_from}
-use Rattle.ccr_model.proofs.Members.{Among, Among-left, Among-right, place_of}
+use Rattle.ccr_model.proofs.Members.{Among, Among-left, Among-right, index_of}
 use Rattle.ccr_object.specs.Starts.{arbiter_places, places_of, port_places, queue_places, site_places}
 use Rattle.ccr_net.proofs.Known.TasksAreKnown.{seat_of}
 use Rattle.ccr_net.proofs.Parts.PhasesFitPlans.{SpotFits}
@@ -117,4 +117,4 @@ place_among w place is = by place is
 
 -- its number
 pub place_stands : (w : Parts) (place : Place) → IsPlaceOf w place → (number : ℕ) × (slice_get (places_of w) number ≡ Some place)
-place_stands w place is = place_of (places_of w) place (place_among w place is)
+place_stands w place is = index_of (places_of w) place (place_among w place is)

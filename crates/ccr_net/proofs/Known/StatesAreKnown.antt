@@ -23,14 +23,14 @@ use Rattle.ccr_model.proofs.Members.{Among, Among-either}
 use Rattle.ccr_model.proofs.OneMoreEvent.{dropped-push}
 use Rattle.ccr_model.proofs.SameNames.{same_task-self}
 use Rattle.ccr_model.proofs.TaskLists.{among_right}
-use Rattle.ccr_model.proofs.TaskPlaces.{ArePlaced-legal}
+use Rattle.ccr_model.proofs.WhoWasPut.{ArePlaced-legal}
 use Rattle.ccr_places.specs.declared.notes.ClaimNote.TheVariants.{Got, Busy, Short}
 use Rattle.ccr_places.specs.declared.notes.Note.{Note}
 use Rattle.ccr_places.specs.declared.notes.Note.TheVariants as notes
 use Rattle.ccr_claim.specs.declared.asks.Reply.{Reply}
 use Rattle.ccr_claim.specs.declared.asks.Reply.TheVariants as replies
 use Rattle.ccr_actor.specs.Plans.{is_interleave_number}
-use Rattle.ccr_actor.specs.Actors.{State, Work, lines, round, taking, playing, posting, shedding, resting, Turn, settle, admit, drive, go_on, stop, turn, spots_left, start, settled, add_arbiter, admissions_after, after_admit, after_attempt, after_over, give_up, after_work, after_in, take_from, after_end, after_play, next_round, shorten}
+use Rattle.ccr_actor.specs.Actors.{State, Work, lines, round, taking, playing, posting, shedding, resting, Turn, settle, admit, drive, go_on, stop, turn, spots_left, start, settled, add_domain, admissions_after, after_admit, after_attempt, after_over, give_up, after_work, after_in, take_from, after_end, after_play, next_round, shorten}
 use Rattle.ccr_runs.specs.EntryRuns.{reply_to}
 use Rattle.ccr_runs.specs.Views.{view}
 use Rattle.ccr_net.proofs.Kept.WholeInvariant.{domains_admit, spots_drive}
@@ -87,7 +87,7 @@ dropped_domain w all h t d legal =
 
 -- ---- the state after a reply
 
-add_reaches : (w : Parts) (i : ℕ) (is : List ℕ) → IsDomain w i → ((j : ℕ) → Among j is → IsDomain w j) → (j : ℕ) → Among j (add_arbiter w i is) → IsDomain w j
+add_reaches : (w : Parts) (i : ℕ) (is : List ℕ) → IsDomain w i → ((j : ℕ) → Among j is → IsDomain w j) → (j : ℕ) → Among j (add_domain w i is) → IsDomain w j
 add_reaches w i is one known j there = by (is_interleave_number w i && not (list_any (λ other. other == i) is)) there
   where
     more : Among j is ⊎ Among j (i ∷ []) → IsDomain w j
@@ -109,7 +109,7 @@ module _ (w : Parts) (all : IsSound w) (h : List Event) (legal : IsLegal w h) (a
       rest : Reaches w (record st { hand = more })
       rest = record { arbs = reach.arbs; works = reach.works }
 
-      too : (t : Task) → IsDomain w t.arbiter → (b : Bool) → (i : ℕ) → Among i (if b then add_arbiter w t.arbiter st.domains else st.domains) → IsDomain w i
+      too : (t : Task) → IsDomain w t.arbiter → (b : Bool) → (i : ℕ) → Among i (if b then add_domain w t.arbiter st.domains else st.domains) → IsDomain w i
       too t one true i there = add_reaches w t.arbiter st.domains one reach.arbs i there
       too t one false i there = reach.arbs i there
 
@@ -199,8 +199,8 @@ module _ (w : Parts) (all : IsSound w) (h : List Event) (legal : IsLegal w h) (a
       by true = tt
       by false = tt
 
-  task_domain : (task : Task) (place : ℕ) (left : List Sent) → RunsTask w h a task place left → IsDomain w task.arbiter
-  task_domain task place left run = subst (λ (t : Task). IsDomain w t.arbiter) (sym run.as_seen) (view_domain w all h legal task.id run.fires)
+  task_domain : (task : Task) (index : ℕ) (left : List Sent) → RunsTask w h a task index left → IsDomain w task.arbiter
+  task_domain task index left run = subst (λ (t : Task). IsDomain w t.arbiter) (sym run.as_seen) (view_domain w all h legal task.id run.fires)
 
   over_reaches : (task : Task) → IsDomain w task.arbiter → Reaches w (after_over w st task)
   over_reaches task one = record { arbs = add_reaches w task.arbiter st.domains one reach.arbs; works = rounds_on }
@@ -233,13 +233,13 @@ module _ (w : Parts) (all : IsSound w) (h : List Event) (legal : IsLegal w h) (a
       by replies.Spent = next
       by (replies.Left k) = next
 
-  post_reaches : (task : Task) (place : ℕ) (play : Play) (sent : Sent) (more : List Sent) (reply : Reply) → Reaches w (after_play w st task place play (sent ∷ more) reply)
-  post_reaches task place play sent more reply = by reply
+  post_reaches : (task : Task) (index : ℕ) (play : Play) (sent : Sent) (more : List Sent) (reply : Reply) → Reaches w (after_play w st task index play (sent ∷ more) reply)
+  post_reaches task index play sent more reply = by reply
     where
       shed : Reaches w (record st { work = shedding task })
       shed = record { arbs = reach.arbs; works = tt }
 
-      by : (reply : Reply) → Reaches w (after_play w st task place play (sent ∷ more) reply)
+      by : (reply : Reply) → Reaches w (after_play w st task index play (sent ∷ more) reply)
       by replies.Done = shed
       by (replies.Got ms) = shed
       by (replies.Busy t) = shed
@@ -272,16 +272,16 @@ module _ (w : Parts) (all : IsSound w) (h : List Event) (legal : IsLegal w h) (a
   round_reaches replies.Spent same = same
 
   work_reaches : (work : Work) → WorkMatches w h a work → WorkReaches w work → (reply : Reply) → Reaches w (after_work w st work reply)
-  work_reaches (lines place []) match low reply = record { arbs = reach.arbs; works = tt }
-  work_reaches (lines place (sent ∷ sents)) match low reply = record { arbs = reach.arbs; works = tt }
+  work_reaches (lines index []) match low reply = record { arbs = reach.arbs; works = tt }
+  work_reaches (lines index (sent ∷ sents)) match low reply = record { arbs = reach.arbs; works = tt }
   work_reaches round match low reply = round_reaches reply reach
   work_reaches (taking left q more) match low reply = taking_reaches left q more low reply
-  work_reaches (playing task place play) match low reply = by play.posts
+  work_reaches (playing task index play) match low reply = by play.posts
     where
-      by : (ps : List Sent) → Reaches w (after_play w st task place play ps reply)
-      by [] = end_reaches task (task_domain task place play.posts match.0) play.end
-      by (sent ∷ more) = post_reaches task place play sent more reply
-  work_reaches (posting task place play sent) match low reply = record { arbs = reach.arbs; works = tt }
+      by : (ps : List Sent) → Reaches w (after_play w st task index play ps reply)
+      by [] = end_reaches task (task_domain task index play.posts match.0) play.end
+      by (sent ∷ more) = post_reaches task index play sent more reply
+  work_reaches (posting task index play sent) match low reply = record { arbs = reach.arbs; works = tt }
   work_reaches (shedding task) match low reply = over_reaches task (task_domain task match.0 (match.1 ∷ match.2) match.3)
   work_reaches resting match low reply = reach
 

@@ -21,7 +21,7 @@ use Rattle.ccr_wiring.proofs.Positions.{placement-domain}
 use Rattle.ccr_wiring.proofs.Validity.{no_codes}
 use Rattle.ccr_model.specs.declared.history.Event.{Event}
 use Rattle.ccr_model.specs.declared.history.Event.TheVariants as events
-use Rattle.ccr_model.specs.Choice.{are_oldest}
+use Rattle.ccr_model.specs.Selection.{are_oldest}
 use Rattle.ccr_model.specs.Firings.{Firing, firing_of, firings}
 use Rattle.ccr_model.specs.Legal.{IsAllowed, IsLegal}
 use Rattle.ccr_model.specs.Posts.{held}
@@ -208,8 +208,8 @@ fires_fit : (w : Parts) (h : List Event) → IsLegal w h → (f : Firing) → Am
 fires_fit w h legal = along w (λ g. (f : Firing) → Among f (firings g) → SpotFits w f.spot) kept (λ f is. absurd is) h legal
   where
     chosen : (g : List Event) (t : TaskId) (spot : Spot) (ms : _) (cs : List TaskId) → IsAllowed w g (events.Fire t spot ms cs) → SpotFits w spot
-    chosen g t (Branch b) ms cs allowed = let found = some_of _ (placement w b) (FireFacts-allowed w g t (Branch b) ms cs allowed).choice_made in (found.0, found.1)
-    chosen g t (Site b k) ms cs allowed = let found = some_of (λ port. are_oldest (held g port) ms) (site_port w b k) (FireFacts-allowed w g t (Site b k) ms cs allowed).choice_made in (found.0, found.1)
+    chosen g t (Branch b) ms cs allowed = let found = some_of _ (placement w b) (FireFacts-allowed w g t (Branch b) ms cs allowed).selection_made in (found.0, found.1)
+    chosen g t (Site b k) ms cs allowed = let found = some_of (λ port. are_oldest (held g port) ms) (site_port w b k) (FireFacts-allowed w g t (Site b k) ms cs allowed).selection_made in (found.0, found.1)
 
     kept : (g : List Event) (e : Event) → ((f : Firing) → Among f (firings g) → SpotFits w f.spot) → IsAllowed w g e → (f : Firing) → Among f (firings (g ++ e ∷ [])) → SpotFits w f.spot
     kept g e known allowed f is = by e allowed (Among-either f (firings g) (firing_of e) (subst (Among f) (firings-push g e) is))

@@ -1,5 +1,6 @@
 -- A name that a queue has booked or queued was reached by its actor, so a new attempt's name is new to each queue.
 use Rattle.std.proofs.Common.{inl, inr, ◌⊎◌, ◌≡◌, ◌≤◌, ◌<◌, ℕ, zero, suc, ◌+◌, Bool, true, false, not, ◌||◌, List, [], ◌∷◌, ◌++◌, drop, Option, Some, None, refl, sym, arith, ap, ◌∙◌, subst}
+use Rattle.std.proofs.lemmas.Bool.{or_cases}
 use Rattle.std.specs.Prelude.{◌==◌, if◌then◌else◌}
 use Rattle.std.specs.List.{list_any}
 use Rattle.std.specs.FinSet as set
@@ -52,10 +53,6 @@ abbrev pub NamesReached : Parts → Lacks → List Entry → Type 0
 NamesReached w lacks es = (q : ℕ) (t : TaskId) → is_known (queue_at w es q) t ≡ true → Reached (state_of w lacks es t.actor) t.attempt
 
 -- ---- what a note makes known
-
-or_cases : (a b : Bool) → a || b ≡ true → (a ≡ true) ⊎ (b ≡ true)
-or_cases true b is = inl refl
-or_cases false b is = inr is
 
 any_drop : (p : Queued → Bool) (n : ℕ) (xs : List Queued) → list_any p (drop n xs) ≡ true → list_any p xs ≡ true
 any_drop p zero xs is = is
@@ -193,11 +190,11 @@ some_book y x is none = ap (λ (z : Asked). is_book z.ask) (sym same) ∙ none
     same = cc
 
 work_books : (a : ℕ) (wk : Work) (x : Asked) → work_ask a wk ≡ Some x → is_book x.ask ≡ false
-work_books a (lines place []) x is = some_book _ x is refl
-work_books a (lines place (sent ∷ sents)) x is = some_book _ x is refl
+work_books a (lines index []) x is = some_book _ x is refl
+work_books a (lines index (sent ∷ sents)) x is = some_book _ x is refl
 work_books a round x is = some_book _ x is refl
 work_books a (taking left queue more) x is = some_book _ x is refl
-work_books a (playing task place play) x is = by_posts play.posts is
+work_books a (playing task index play) x is = by_posts play.posts is
   where
     by_end : (end : PlayEnd) → is_book (end_ask task play end).ask ≡ false
     by_end plays.Done = refl
@@ -207,7 +204,7 @@ work_books a (playing task place play) x is = by_posts play.posts is
     by_posts : (ps : List Sent) → Some (play_ask task play ps) ≡ Some x → is_book x.ask ≡ false
     by_posts [] now = some_book _ x now (by_end play.end)
     by_posts (sent ∷ ps) now = some_book _ x now refl
-work_books a (posting task place play sent) x is = some_book _ x is refl
+work_books a (posting task index play sent) x is = some_book _ x is refl
 work_books a (shedding task) x is = some_book _ x is refl
 work_books a resting x is = absurd (cc)
 

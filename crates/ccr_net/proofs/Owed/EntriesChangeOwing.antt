@@ -29,7 +29,7 @@ use Rattle.ccr_claim.specs.Plans.{in_pattern, names_of, resumes}
 use Rattle.ccr_claim.specs.Attempts.{at_place, Phase, booking, claiming, attempt_ask, release, free_ask, unbook_ask, firing_hand, put_ask, over_dropped}
 use Rattle.ccr_actor.specs.Plans.{plan_of}
 use Rattle.ccr_actor.specs.Actors.{State, Work, lines, round, taking, playing, posting, shedding, resting, go_on, turn, after, after_work, in_attempt, shorten, fire, give_up, driven_on, admit_too, put_admitted, work_ask, play_ask, end_ask, name_at, spots_left}
-use Rattle.ccr_actor.proofs.StepsOfAttempts.{none-owed}
+use Rattle.ccr_actor.proofs.StepsOfAttempts.{none-owed, same-attempt}
 use Rattle.ccr_runs.specs.declared.entries.Entry.{Entry}
 use Rattle.ccr_runs.specs.EntryRuns.{Lacks, state_of, port_at, reply_of}
 use Rattle.ccr_runs.specs.Views.{view, cut_view}
@@ -95,10 +95,6 @@ pub data Owes (w : Parts) (es : List Entry) (e : Entry) (st : State) (xs ys : Li
 
 -- ---- what an attempt hands back
 
-attempt_same : (w : Parts) (a : ℕ) (st st' : State) (spots : List Spot) → st'.phase ≡ st.phase → st'.attempt ≡ st.attempt → in_attempt w a st' spots ≡ in_attempt w a st spots
-attempt_same w a st st' [] phase attempt = refl
-attempt_same w a st st' (spot ∷ more) phase attempt = λ i. release (plan_of w spot) (record { actor = a; attempt = attempt i }) (phase i)
-
 owing_short : (w : Parts) (a : ℕ) (st : State) → owing w a (shorten w a st) ≡ owing w a st
 owing_short w a st = append-nil (st.hand ++ in_attempt w a st st.spots)
 
@@ -119,8 +115,8 @@ idle_booking w st fits turns = by st.phase refl st.spots refl (nat_lt st.attempt
 -- ---- asks of work
 
 -- whose end or rest it is
-runs_task : (w : Parts) (h : List Event) (a : ℕ) (task : Task) (place : ℕ) (left : List Sent) → RunsTask w h a task place left → Runs w h a task
-runs_task w h a task place left is = record { alone = is.alone; fires = is.fires; as_seen = is.as_seen }
+runs_task : (w : Parts) (h : List Event) (a : ℕ) (task : Task) (index : ℕ) (left : List Sent) → RunsTask w h a task index left → Runs w h a task
+runs_task w h a task index left is = record { alone = is.alone; fires = is.fires; as_seen = is.as_seen }
 
 abbrev pub WorkAsks : Parts → List Event → ℕ → Asked → Type 0
 WorkAsks w h a x = (is_quiet x.ask ≡ true) ⊎ ((task : Task) × (how : How) × (x ≡ at_place (places.Arbiter task.arbiter) (asks.Over task.id task.root how)) × (is_run_end how ≡ true) × Runs w h a task)
@@ -132,21 +128,21 @@ some_ask w h a y x is asks = subst (WorkAsks w h a) (inside is) asks
     inside now = cc
 
 pub work_asks : (w : Parts) (h : List Event) (a : ℕ) (wk : Work) (x : Asked) → WorkMatches w h a wk → work_ask a wk ≡ Some x → WorkAsks w h a x
-work_asks w h a (lines place []) x match is = some_ask w h a _ x is (inl refl)
-work_asks w h a (lines place (sent ∷ sents)) x match is = some_ask w h a _ x is (inl refl)
+work_asks w h a (lines index []) x match is = some_ask w h a _ x is (inl refl)
+work_asks w h a (lines index (sent ∷ sents)) x match is = some_ask w h a _ x is (inl refl)
 work_asks w h a round x match is = some_ask w h a _ x is (inl refl)
 work_asks w h a (taking left queue more) x match is = some_ask w h a _ x is (inl refl)
-work_asks w h a (playing task place play) x match is = by_posts play.posts refl is
+work_asks w h a (playing task index play) x match is = by_posts play.posts refl is
   where
-    by_end : (end : PlayEnd) (ps : List Sent) → RunsTask w h a task place ps → WorkAsks w h a (end_ask task play end)
-    by_end plays.Done ps run = inr (task, hows.Done, refl, refl, runs_task w h a task place ps run)
-    by_end (plays.Failed value) ps run = inr (task, hows.Failed value, refl, refl, runs_task w h a task place ps run)
+    by_end : (end : PlayEnd) (ps : List Sent) → RunsTask w h a task index ps → WorkAsks w h a (end_ask task play end)
+    by_end plays.Done ps run = inr (task, hows.Done, refl, refl, runs_task w h a task index ps run)
+    by_end (plays.Failed value) ps run = inr (task, hows.Failed value, refl, refl, runs_task w h a task index ps run)
     by_end (plays.Yield site) ps run = inl refl
 
     by_posts : (ps : List Sent) → play.posts ≡ ps → Some (play_ask task play ps) ≡ Some x → WorkAsks w h a x
     by_posts [] posts now = some_ask w h a _ x now (by_end play.end play.posts match.0)
     by_posts (sent ∷ ps) posts now = some_ask w h a _ x now (inl refl)
-work_asks w h a (posting task place play sent) x match is = some_ask w h a _ x is (inl refl)
+work_asks w h a (posting task index play sent) x match is = some_ask w h a _ x is (inl refl)
 work_asks w h a (shedding task) x match is = some_ask w h a _ x is (inr (task, hows.Shed, refl, refl, runs_task w h a task match.0 (match.1 ∷ match.2) match.3))
 work_asks w h a resting x match is = absurd (cc)
 
@@ -167,10 +163,10 @@ module _ (w : Parts) (n : ℕ) (lacks : Lacks) (es : List Entry) (e : Entry) (ho
   of_move next (settles x more hand given is) = less x given (rw hand refl ∙ ap (λ xs. x ∷ xs) (sym now))
     where
       now : owing w e.actor next ≡ more ++ in_attempt w e.actor st st.spots
-      now = ap (owing w e.actor) is ∙ ap (λ xs. more ++ xs) (attempt_same w e.actor st (record st { hand = more }) st.spots refl refl)
-  of_move next (drops x more t d hand given note is) = dropped x (more ++ in_attempt w e.actor st st.spots) t d given note (rw hand refl) (ap (owing w e.actor) is ∙ ap (λ xs. over_dropped (view w (visible (es ++ e ∷ [])) d) ∷ (more ++ xs)) (attempt_same w e.actor st (record st { hand = over_dropped (view w (visible (es ++ e ∷ [])) d) ∷ more; domains = admit_too w st (view w (visible (es ++ e ∷ [])) d) }) st.spots refl refl))
-  of_move next (admits i more t hand numbers given note is) = admitted i more t numbers given note (ap (owing w e.actor) is ∙ ap (λ xs. put_ask (view w (visible (es ++ e ∷ [])) t) ∷ xs) (attempt_same w e.actor st (put_admitted st more (view w (visible (es ++ e ∷ [])) t)) st.spots refl refl ∙ sym (ap (λ xs. xs ++ in_attempt w e.actor st st.spots) hand)))
-  of_move next (strikes i more hand numbers given is) = same _ given refl (ap (owing w e.actor) is ∙ ap (λ xs. st.hand ++ xs) (attempt_same w e.actor st (record st { domains = more }) st.spots refl refl))
+      now = ap (owing w e.actor) is ∙ ap (λ xs. more ++ xs) (same-attempt w e.actor (record st { hand = more }) st st.spots refl refl)
+  of_move next (drops x more t d hand given note is) = dropped x (more ++ in_attempt w e.actor st st.spots) t d given note (rw hand refl) (ap (owing w e.actor) is ∙ ap (λ xs. over_dropped (view w (visible (es ++ e ∷ [])) d) ∷ (more ++ xs)) (same-attempt w e.actor (record st { hand = over_dropped (view w (visible (es ++ e ∷ [])) d) ∷ more; domains = admit_too w st (view w (visible (es ++ e ∷ [])) d) }) st st.spots refl refl))
+  of_move next (admits i more t hand numbers given note is) = admitted i more t numbers given note (ap (owing w e.actor) is ∙ ap (λ xs. put_ask (view w (visible (es ++ e ∷ [])) t) ∷ xs) (same-attempt w e.actor (put_admitted st more (view w (visible (es ++ e ∷ [])) t)) st st.spots refl refl ∙ sym (ap (λ xs. xs ++ in_attempt w e.actor st st.spots) hand)))
+  of_move next (strikes i more hand numbers given is) = same _ given refl (ap (owing w e.actor) is ∙ ap (λ xs. st.hand ++ xs) (same-attempt w e.actor (record st { domains = more }) st st.spots refl refl))
   of_move next (books spot more hand spots phase given note is) = booked spot given note (under_way spot more booking hand spots phase) (ap (owing w e.actor) is ∙ rw (hand, spots) refl)
   of_move next (claims spot more slot slots had k hand spots phase given free note is) = got d k given free note (ap (owing w e.actor) is ∙ rw (hand, spots) (ap (λ ds. map (free_ask name) ds ++ unbook_ask (plan_of w spot).queue name ∷ []) (reverse-append had (d ∷ []))) ∙ ap (λ xs. free_ask name d ∷ xs) (sym (under_way spot more (claiming (slot ∷ slots) had) hand spots phase)))
     where

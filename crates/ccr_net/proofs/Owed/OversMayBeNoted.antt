@@ -36,7 +36,7 @@ use Rattle.ccr_model.proofs.FiringPlacements.{firing_with_placement}
 use Rattle.ccr_model.proofs.Roots.{AreRooted-legal, IsAtWork, at_work_admitted, running_works, queued_works, not_over}
 use Rattle.ccr_model.proofs.SameNames.{same_task-is, same_task-self}
 use Rattle.ccr_model.proofs.TaskLists.{among_left, of_one}
-use Rattle.ccr_model.proofs.TaskPlaces.{ArePlaced-legal, placement_by}
+use Rattle.ccr_model.proofs.WhoWasPut.{ArePlaced-legal, placement_by}
 use Rattle.ccr_model.proofs.TasksLeft.{has_task-append}
 use Rattle.ccr_places.specs.declared.notes.Note.{Note}
 use Rattle.ccr_places.specs.declared.notes.Note.TheVariants as notes
@@ -264,7 +264,7 @@ module _ (w : Parts) (domains : HasDomains w) (n : ℕ) (lacks : Lacks) (es : Li
 
   -- the root of who is at work may be noted over
   pub at_work_may : (t : TaskId) → IsAtWork h t → may_over_at w es (domain_of_task w h t) (root_of h t) ≡ true
-  at_work_may t work = ap (λ i. may_over_at w es i root) (ap (λ o. option_map_or (λ (z : Placement). z.domain) o 0) placed) ∙ of_part (slice_get w.arbiters s.domain) refl (domains (branch_of fires.0.spot) s place.1)
+  at_work_may t work = ap (λ i. may_over_at w es i root) (ap (λ o. option_map_or (λ (z : Placement). z.domain) o 0) placed) ∙ of_part (slice_get w.arbiters s.domain) refl (domains (branch_of fires.0.spot) s found.1)
     where
       root : TaskId
       root = root_of h t
@@ -272,14 +272,14 @@ module _ (w : Parts) (domains : HasDomains w) (n : ℕ) (lacks : Lacks) (es : Li
       fires : IsFired h t
       fires = (ArePlaced-legal w h holds.legal).all_fired t work.put_so
 
-      place : (r : Placement) × (placement w (branch_of fires.0.spot) ≡ Some r)
-      place = firing_with_placement w h holds.legal fires.0 (found_member (λ (f : Firing). same_task f.task t) (firings h) fires.0 fires.1).0
+      found : (r : Placement) × (placement w (branch_of fires.0.spot) ≡ Some r)
+      found = firing_with_placement w h holds.legal fires.0 (found_member (λ (f : Firing). same_task f.task t) (firings h) fires.0 fires.1).0
 
       s : Placement
-      s = place.0
+      s = found.0
 
       placed : placement_of w h t ≡ Some s
-      placed = placement_by w h t fires.0 fires.1 ∙ place.1
+      placed = placement_by w h t fires.0 fires.1 ∙ found.1
 
       earlier : List Note
       earlier = notes_at es (places.Arbiter s.domain)
@@ -294,7 +294,7 @@ module _ (w : Parts) (domains : HasDomains w) (n : ℕ) (lacks : Lacks) (es : Li
           rooted = AreRooted-legal w h holds.legal t fires.0 fires.1
 
           passes : is_branch_where w (is_of s.domain) rooted.0.spot ≡ true
-          passes = ap (is_branch_where w (is_of s.domain)) rooted.2 ∙ ap (λ o. option_map_or (is_of s.domain) o false) place.1 ∙ eq-self s.domain
+          passes = ap (is_branch_where w (is_of s.domain)) rooted.2 ∙ ap (λ o. option_map_or (is_of s.domain) o false) found.1 ∙ eq-self s.domain
 
           there : has_task (arbiter_after (first_branch w s.domain) part earlier).fired root ≡ true
           there = ap (λ ts. has_task ts root) ((kept_shape start earlier).fired ∙ ap (λ ts. ts ++ fired_there earlier) (none_at_first (first_branch w s.domain) part) ∙ holds.arbiters s.domain) ∙ fired_by_has w (is_of s.domain) h root rooted.0 rooted.1 passes

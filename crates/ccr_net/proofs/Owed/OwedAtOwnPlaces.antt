@@ -20,7 +20,7 @@ use Rattle.ccr_claim.specs.declared.asks.Ask.TheVariants as asks
 use Rattle.ccr_claim.specs.declared.asks.Asked.{Asked}
 use Rattle.ccr_claim.specs.Attempts.{consume_ask, cut_ask, put_asks}
 use Rattle.ccr_actor.specs.Plans.{is_interleave_number}
-use Rattle.ccr_actor.specs.Actors.{State, after, add_arbiter, admissions_after, name_at}
+use Rattle.ccr_actor.specs.Actors.{State, after, add_domain, admissions_after, name_at}
 use Rattle.ccr_runs.specs.declared.entries.Entry.{Entry}
 use Rattle.ccr_runs.specs.EntryRuns.{Lacks, state_of, reply_of, waits}
 use Rattle.ccr_runs.specs.Views.{view, cut_view}
@@ -129,7 +129,7 @@ module _ (w : Parts) (domains : HasDomains w) (lacks : Lacks) (es : List Entry) 
       v : Task
       v = view w (visible (es ++ e ∷ [])) d
 
-      by : (c : Bool) → AreInterleaves w (if c then add_arbiter w v.arbiter now.domains else now.domains)
+      by : (c : Bool) → AreInterleaves w (if c then add_domain w v.arbiter now.domains else now.domains)
       by true = add_interleave w v.arbiter now.domains are
       by false = are
   numbers_on next (admits i more t hand numbers given note is) are = subst (λ (s : State). AreInterleaves w s.domains) (sym is) (by (nat_lt (now.admitted + 1) 32768))

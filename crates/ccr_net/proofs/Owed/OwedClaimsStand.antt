@@ -76,6 +76,18 @@ many p t xs = owed.many places.Port unclaims p t xs
 abbrev pub ClaimsStand : Parts → Lacks → List Entry → Type 0
 ClaimsStand w lacks es = owed.OwedOnce places.Port unclaims w lacks is_claimed es
 
+-- the same claims are ended, whether all ports are freed or consumed
+pub freed_or_consumed : (name : TaskId) (p : ℕ) (t : TaskId) (had : List Had) → many p t (map (free_ask name) (reverse had)) ≡ many p t (map (consume_ask name) had)
+freed_or_consumed name p t [] = refl
+freed_or_consumed name p t (d ∷ had) =
+    let rest = freed_or_consumed name p t had in
+    let turned : map (free_ask name) (reverse (d ∷ had)) ≡ map (free_ask name) (reverse had) ++ free_ask name d ∷ [] = ap (map (free_ask name)) (reverse-append (d ∷ []) had) ∙ mapped (reverse had) in
+    let split = ap (many p t) turned ∙ owed.many-append places.Port unclaims p t (map (free_ask name) (reverse had)) (free_ask name d ∷ []) in
+    omega (arith, rest, split)
+  where
+    mapped : (ds : List Had) → map (free_ask name) (ds ++ d ∷ []) ≡ map (free_ask name) ds ++ free_ask name d ∷ []
+    mapped ds = grind (arith, common_steps)
+
 -- ---- a note at a port
 
 claims_still : (o : Option StandingClaim) (t : TaskId) → option_map_or (λ (c : StandingClaim). same_task t c.task) o false ≡ true → (c : StandingClaim) × (o ≡ Some c) × (t ≡ c.task)
@@ -154,18 +166,6 @@ module _ (w : Parts) (n : ℕ) (lacks : Lacks) (es : List Entry) (e : Entry) (st
   about_quiet : (x : Asked) (p : ℕ) (t : TaskId) → is_quiet x.ask ≡ true → is_about p t x ≡ false
   about_quiet x p t quiet = rw (unclaims-quiet x.ask quiet) (and_false (same_place x.place (places.Port p)))
 
-  -- the same ports are consumed that would be freed
-  same_ports : (p : ℕ) (t : TaskId) (had : List Had) → many p t (map (free_ask name) (reverse had)) ≡ many p t (map (consume_ask name) had)
-  same_ports p t [] = refl
-  same_ports p t (d ∷ had) =
-      let rest = same_ports p t had in
-      let turned : map (free_ask name) (reverse (d ∷ had)) ≡ map (free_ask name) (reverse had) ++ free_ask name d ∷ [] = ap (map (free_ask name)) (reverse-append (d ∷ []) had) ∙ mapped (reverse had) in
-      let split = ap (many p t) turned ∙ owed.many-append places.Port unclaims p t (map (free_ask name) (reverse had)) (free_ask name d ∷ []) in
-      omega (arith, rest, split)
-    where
-      mapped : (ds : List Had) → map (free_ask name) (ds ++ d ∷ []) ≡ map (free_ask name) ds ++ free_ask name d ∷ []
-      mapped ds = grind (arith, common_steps)
-
   abbrev On : Type 0
   On = owed.OwesOn places.Port unclaims w lacks is_claimed es e
 
@@ -243,7 +243,7 @@ module _ (w : Parts) (n : ℕ) (lacks : Lacks) (es : List Entry) (e : Entry) (st
           let no_cuts = owed.many-none places.Port unclaims p t cut_ask (λ c. refl) cuts in
           let no_put = none_put task in
           let before = ap (many p t) was ∙ owed.many-append places.Port unclaims p t (map (free_ask name) (reverse had)) (unbook_ask (plan_of w spot).queue name ∷ []) in
-          let alike = same_ports p t had in
+          let alike = freed_or_consumed name p t had in
           omega (arith, now, behind, no_cuts, no_put, before, alike)
         where
           task : Option Task

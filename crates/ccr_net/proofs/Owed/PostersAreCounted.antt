@@ -131,7 +131,7 @@ left_more w es e = by (same_place e.place places.Meter) (ap (λ (m : MeterState)
 
 -- work that ends a script leaves, and no other does
 abbrev Leaves : Work → Asked → Type 0
-Leaves wk x = ((place : ℕ) × (wk ≡ lines place [])) ⊎ (is_leave x.ask ≡ false)
+Leaves wk x = ((index : ℕ) × (wk ≡ lines index [])) ⊎ (is_leave x.ask ≡ false)
 
 some_leave : (wk : Work) (y x : Asked) → Some y ≡ Some x → is_leave y.ask ≡ false → Leaves wk x
 some_leave wk y x is none = inr (ap (λ (z : Asked). is_leave z.ask) (sym same) ∙ none)
@@ -140,21 +140,21 @@ some_leave wk y x is none = inr (ap (λ (z : Asked). is_leave z.ask) (sym same) 
     same = cc
 
 work_leaves : (a : ℕ) (wk : Work) (x : Asked) → work_ask a wk ≡ Some x → Leaves wk x
-work_leaves a (lines place []) x is = inl (place, refl)
-work_leaves a (lines place (sent ∷ sents)) x is = some_leave _ _ x is refl
+work_leaves a (lines index []) x is = inl (index, refl)
+work_leaves a (lines index (sent ∷ sents)) x is = some_leave _ _ x is refl
 work_leaves a round x is = some_leave _ _ x is refl
 work_leaves a (taking left queue more) x is = some_leave _ _ x is refl
-work_leaves a (playing task place play) x is = by_posts play.posts is
+work_leaves a (playing task index play) x is = by_posts play.posts is
   where
     by_end : (end : PlayEnd) → is_leave (end_ask task play end).ask ≡ false
     by_end plays.Done = refl
     by_end (plays.Failed value) = refl
     by_end (plays.Yield site) = refl
 
-    by_posts : (ps : List Sent) → Some (play_ask task play ps) ≡ Some x → Leaves (playing task place play) x
+    by_posts : (ps : List Sent) → Some (play_ask task play ps) ≡ Some x → Leaves (playing task index play) x
     by_posts [] now = some_leave _ _ x now (by_end play.end)
     by_posts (sent ∷ ps) now = some_leave _ _ x now refl
-work_leaves a (posting task place play sent) x is = some_leave _ _ x is refl
+work_leaves a (posting task index play sent) x is = some_leave _ _ x is refl
 work_leaves a (shedding task) x is = some_leave _ _ x is refl
 work_leaves a resting x is = absurd (cc)
 
@@ -182,7 +182,7 @@ module _ (w : Parts) (n : ℕ) (lacks : Lacks) (es : List Entry) (e : Entry) (st
   st = state_of w lacks es e.actor
 
   abbrev Changes : State → Type 0
-  Changes next = ((is_scripted next.work ≡ is_scripted st.work) × ((meter_at w (es ++ e ∷ [])).left ≡ (meter_at w es).left)) ⊎ ((place : ℕ) × (st.work ≡ lines place []) × (is_scripted next.work ≡ false))
+  Changes next = ((is_scripted next.work ≡ is_scripted st.work) × ((meter_at w (es ++ e ∷ [])).left ≡ (meter_at w es).left)) ⊎ ((index : ℕ) × (st.work ≡ lines index []) × (is_scripted next.work ≡ false))
 
   changes_on : (next : State) → Move w es e st next → Changes next
   changes_on next (settles x more hand given is) = inl (ap (λ (s : State). is_scripted s.work) is, left_same w es e x given (hand_leaves w e.actor st.attempt es x.place x.ask ((holds.actors e.actor).claims.owed x (subst (Among x) (sym hand) (inl refl)))))
@@ -234,15 +234,15 @@ module _ (w : Parts) (n : ℕ) (lacks : Lacks) (es : List Entry) (e : Entry) (st
           of_test b true is = subst (λ a. new a ≡ old a) (same_number e.actor b is) mine
           of_test b false is = others b (differ e.actor b is)
 
-      poster : (place : ℕ) → st.work ≡ lines place [] → e.actor < length w.posters
-      poster place is = of_script (rw is at (holds.actors e.actor).work)
+      poster : (index : ℕ) → st.work ≡ lines index [] → e.actor < length w.posters
+      poster index is = of_script (rw is at (holds.actors e.actor).work)
         where
           below : {X : Type 0} (xs : List X) (k : ℕ) (x : X) → slice_get xs k ≡ Some x → k < length xs
           below [] k x at = absurd (cc)
           below (y ∷ xs) zero x at = omega arith
           below (y ∷ xs) (suc k) x at = let rest = below xs k x at in omega (arith, rest)
 
-          of_script : WorkMatches w (visible es) e.actor (lines place []) → e.actor < length w.posters
+          of_script : WorkMatches w (visible es) e.actor (lines index []) → e.actor < length w.posters
           of_script match = below w.posters e.actor match.poster match.is_poster
 
       by : Changes (after w e.actor st (reply_of w es e)) → FewLeft w lacks (es ++ e ∷ [])

@@ -12,7 +12,7 @@ use Rattle.ccr_base.specs.declared.names.MsgId.TheVariants as names
 use Rattle.ccr_base.specs.declared.names.Place.TheVariants as places
 use Rattle.ccr_base.specs.declared.patterns.Pred.{Pred}
 use Rattle.ccr_base.specs.declared.tasks.How.TheVariants as hows
-use Rattle.ccr_base.specs.Choice.{holds}
+use Rattle.ccr_base.specs.Selection.{holds}
 use Rattle.ccr_wiring.specs.declared.parts.Parts.{Parts}
 use Rattle.ccr_wiring.specs.declared.parts.PosterPart.{PosterPart}
 use Rattle.ccr_wiring.specs.Limits.{posts_in_all}
@@ -24,7 +24,7 @@ use Rattle.ccr_model.specs.Rules.{is_script_line, is_post, refusal_of_post}
 use Rattle.ccr_base.proofs.Booleans.{same_number, eq-self, both}
 use Rattle.ccr_base.proofs.Options.{some-below}
 use Rattle.ccr_model.proofs.Members.{Among}
-use Rattle.ccr_model.proofs.PostNames.{along, refused_not}
+use Rattle.ccr_model.proofs.PostNames.{along, refused_not, task_messages}
 use Rattle.ccr_model.proofs.OneMoreEvent.{posts-push}
 use Rattle.ccr_places.specs.declared.claims.StandingClaim.{StandingClaim}
 use Rattle.ccr_places.specs.declared.notes.ClaimNote.TheVariants.{Got, Busy, Short}
@@ -136,30 +136,27 @@ hit_some (p ∷ ps) k actor line m id low high = by (actor == k) refl (λ above.
     by true is rest = let one = here ∙ ap bit is in omega (arith, one)
     by false is rest = let above : k + 1 ≤ actor = grind (arith, nat_tests, is, low) in let some = rest above in omega (arith, some)
 
-abbrev by_tasks : List Msg → ℕ
-by_tasks ms = length (filter (λ (m : Msg). is_task_message m.id) ms)
-
-by_tasks-first : (m : Msg) (ms : List Msg) → by_tasks (m ∷ ms) ≡ bit (is_task_message m.id) + by_tasks ms
-by_tasks-first m ms = by (is_task_message m.id) refl
+task_messages-first : (m : Msg) (ms : List Msg) → task_messages (m ∷ ms) ≡ bit (is_task_message m.id) + task_messages ms
+task_messages-first m ms = by (is_task_message m.id) refl
   where
-    by : (b : Bool) → is_task_message m.id ≡ b → by_tasks (m ∷ ms) ≡ bit b + by_tasks ms
+    by : (b : Bool) → is_task_message m.id ≡ b → task_messages (m ∷ ms) ≡ bit b + task_messages ms
     by true e = grind (arith, common_steps, e)
     by false e = grind (arith, common_steps, e)
 
-all_made : (ps : List PosterPart) (ms : List Msg) → ((m : Msg) (actor line : ℕ) → Among m ms → m.id ≡ names.Script actor line → actor < length ps) → length ms ≤ by_tasks ms + made ps 0 ms
+all_made : (ps : List PosterPart) (ms : List Msg) → ((m : Msg) (actor line : ℕ) → Among m ms → m.id ≡ names.Script actor line → actor < length ps) → length ms ≤ task_messages ms + made ps 0 ms
 all_made ps [] within = omega arith
 all_made ps (m ∷ ms) within = by m.id refl (all_made ps ms (λ x actor line is id. within x actor line (inr is) id))
   where
-    by : (name : MsgId) → m.id ≡ name → length ms ≤ by_tasks ms + made ps 0 ms → length (m ∷ ms) ≤ by_tasks (m ∷ ms) + made ps 0 (m ∷ ms)
+    by : (name : MsgId) → m.id ≡ name → length ms ≤ task_messages ms + made ps 0 ms → length (m ∷ ms) ≤ task_messages (m ∷ ms) + made ps 0 (m ∷ ms)
     by (names.Script actor line) id rest =
         let low = within m actor line (inl refl) id in
         let some = hit_some ps 0 actor line m id (omega arith) (omega (arith, low)) in
         let more = made_more ps 0 m ms in
-        let tasks = by_tasks-first m ms in
+        let tasks = task_messages-first m ms in
         omega (arith, rest, some, more, tasks)
     by (names.Task t k) id rest =
         let more = made_more ps 0 m ms in
-        let tasks : by_tasks (m ∷ ms) ≡ 1 + by_tasks ms = by_tasks-first m ms ∙ ap (λ i. bit (is_task_message i) + by_tasks ms) id in
+        let tasks : task_messages (m ∷ ms) ≡ 1 + task_messages ms = task_messages-first m ms ∙ ap (λ i. bit (is_task_message i) + task_messages ms) id in
         omega (arith, rest, more, tasks)
 
 counted : (a : ℕ) (ms : List Msg) (m : Msg) (line : ℕ) → Among m ms → m.id ≡ names.Script a line → 1 ≤ by_poster a ms

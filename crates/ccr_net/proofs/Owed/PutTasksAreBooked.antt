@@ -29,7 +29,7 @@ use Rattle.ccr_model.proofs.FiredTasks.{fired_has}
 use Rattle.ccr_model.proofs.AllowedFirings.{FiresSo-allowed, BranchFacts, BranchFacts-where, WaitingFacts, WaitingFacts-waiting, waits_outside, fired_by_has, firing_named-new}
 use Rattle.ccr_model.proofs.SameNames.{same_task-is, same_task-self}
 use Rattle.ccr_model.proofs.TaskLists.{of_one}
-use Rattle.ccr_model.proofs.TaskPlaces.{placement_by}
+use Rattle.ccr_model.proofs.WhoWasPut.{placement_by}
 use Rattle.ccr_model.proofs.TasksLeft.{distinct-filter}
 use Rattle.ccr_model.proofs.TasksOnce.{fired_once, some_once}
 use Rattle.ccr_places.specs.declared.notes.Note.{Note}
@@ -173,22 +173,22 @@ module _ (w : Parts) (n : ℕ) (lacks : Lacks) (es : List Entry) (holds : Holds 
 
   -- who waits is booked at its queue
   waiting_booked : (i : ℕ) (t : TaskId) → WaitingFacts w h i t → is_booked_at w es (queue_of w h t) t ≡ true
-  waiting_booked i t facts = ap (λ q. is_booked_at w es q t) queue_so ∙ or_left (set.contains (queue_at w es branch.place.branch.queue).fresh t) (set.contains (queue_at w es branch.place.branch.queue).resuming t) (holds.queues.booked.fired_booked branch.place.branch.queue t there (waits_unput w h i t (CutFacts-legal w h holds.legal) facts) facts.not_cut)
+  waiting_booked i t facts = ap (λ q. is_booked_at w es q t) queue_so ∙ or_left (set.contains (queue_at w es branch.placement.branch.queue).fresh t) (set.contains (queue_at w es branch.placement.branch.queue).resuming t) (holds.queues.booked.fired_booked branch.placement.branch.queue t there (waits_unput w h i t (CutFacts-legal w h holds.legal) facts) facts.not_cut)
     where
       branch : BranchFacts w (is_placement_in i) facts.firing.spot
       branch = BranchFacts-where w (is_placement_in i) facts.firing.spot facts.is_branch
 
-      placed : placement_of w h t ≡ Some branch.place
-      placed = placement_by w h t facts.firing facts.is_firing ∙ ap (λ s. placement w (branch_of s)) branch.is_branch ∙ branch.is_place
+      placed : placement_of w h t ≡ Some branch.placement
+      placed = placement_by w h t facts.firing facts.is_firing ∙ ap (λ s. placement w (branch_of s)) branch.is_branch ∙ branch.is_placement
 
-      queue_so : queue_of w h t ≡ branch.place.branch.queue
+      queue_so : queue_of w h t ≡ branch.placement.branch.queue
       queue_so = ap (λ o. option_map_or (λ (s : Placement). s.branch.queue) o 0) placed
 
-      passes : is_branch_where w (is_for branch.place.branch.queue) facts.firing.spot ≡ true
-      passes = ap (is_branch_where w (is_for branch.place.branch.queue)) branch.is_branch ∙ ap (λ o. option_map_or (is_for branch.place.branch.queue) o false) branch.is_place ∙ eq-self branch.place.branch.queue
+      passes : is_branch_where w (is_for branch.placement.branch.queue) facts.firing.spot ≡ true
+      passes = ap (is_branch_where w (is_for branch.placement.branch.queue)) branch.is_branch ∙ ap (λ o. option_map_or (is_for branch.placement.branch.queue) o false) branch.is_placement ∙ eq-self branch.placement.branch.queue
 
-      there : has_task (fired_for w h branch.place.branch.queue) t ≡ true
-      there = fired_by_has w (is_for branch.place.branch.queue) h t facts.firing facts.is_firing passes
+      there : has_task (fired_for w h branch.placement.branch.queue) t ≡ true
+      there = fired_by_has w (is_for branch.placement.branch.queue) h t facts.firing facts.is_firing passes
 
   -- and nobody owes its booking
   unowed : (i : ℕ) (t : TaskId) → WaitingFacts w h i t → (a bound : ℕ) (place : Place) (ask : Ask) → IsOwed w h a bound place ask → has_task (unbooks ask) t ≡ false
@@ -371,17 +371,17 @@ module _ (w : Parts) (n : ℕ) (lacks : Lacks) (es : List Entry) (e : Entry) (st
       facts : AdmitFacts w (visible es) t
       facts = AdmitFacts-allowed w (visible es) t (allowed (events.Admit t) shows)
 
-      waits_so : WaitingFacts w (visible es) facts.place.domain t
-      waits_so = WaitingFacts-waiting w (visible es) facts.place.domain t (OneName-legal w (visible es) holds.legal) facts.waits
+      waits_so : WaitingFacts w (visible es) facts.placement.domain t
+      waits_so = WaitingFacts-waiting w (visible es) facts.placement.domain t (OneName-legal w (visible es) holds.legal) facts.waits
 
       queue_so : queue_of w after t ≡ queue_of w (visible es) t
       queue_so = ap (λ g. queue_of w g t) shows ∙ queue_stays w (visible es) (events.Admit t ∷ []) t (waits_so.firing, waits_so.is_firing)
 
       is_new : (u : TaskId) → u ≡ t → IsNew (queue_of w after t) u
       is_new u same_name = subst (IsNew (queue_of w after t)) (sym same_name) (record {
-        one = let now = ap (many (queue_of w after t) t) is in let self : bit ((queue_of w after t == queue_of w after t) && (same_task t t || false)) ≡ 1 = rw (eq-self (queue_of w after t), same_task-self t) refl in let none = owes_none w n lacks es holds facts.place.domain t waits_so e.actor (queue_of w after t) in omega (arith, now, self, none);
-        met = same_at (places.Arbiter i) given.there refl (queue_of w after t) t (subst (λ q. is_booked_at w es q t ≡ true) (sym queue_so) (waiting_booked w n lacks es holds facts.place.domain t waits_so));
-        nobody = λ b other. owes_none w n lacks es holds facts.place.domain t waits_so b (queue_of w after t);
+        one = let now = ap (many (queue_of w after t) t) is in let self : bit ((queue_of w after t == queue_of w after t) && (same_task t t || false)) ≡ 1 = rw (eq-self (queue_of w after t), same_task-self t) refl in let none = owes_none w n lacks es holds facts.placement.domain t waits_so e.actor (queue_of w after t) in omega (arith, now, self, none);
+        met = same_at (places.Arbiter i) given.there refl (queue_of w after t) t (subst (λ q. is_booked_at w es q t ≡ true) (sym queue_so) (waiting_booked w n lacks es holds facts.placement.domain t waits_so));
+        nobody = λ b other. owes_none w n lacks es holds facts.placement.domain t waits_so b (queue_of w after t);
       })
   on_of (booked spot given note was is) = changes_so (one_more (plan_of w spot).queue name (λ u k. now u k) is_new) _ given (λ q t. about_quiet (attempt_ask (plan_of w spot) name booking) q t refl)
     where

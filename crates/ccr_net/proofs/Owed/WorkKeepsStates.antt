@@ -13,7 +13,7 @@ use Rattle.ccr_model.proofs.Members.{Among, Among-either}
 use Rattle.ccr_claim.specs.declared.asks.Reply.{Reply}
 use Rattle.ccr_claim.specs.declared.asks.Reply.TheVariants as replies
 use Rattle.ccr_actor.specs.Plans.{is_interleave_number}
-use Rattle.ccr_actor.specs.Actors.{State, Work, lines, round, taking, playing, posting, shedding, resting, after_work, after_round, after_take, after_play, after_end, after_over, take_from, rest_or_round, next_round, add_arbiter}
+use Rattle.ccr_actor.specs.Actors.{State, Work, lines, round, taking, playing, posting, shedding, resting, after_work, after_round, after_take, after_play, after_end, after_over, take_from, rest_or_round, next_round, add_domain}
 
 -- the numbers are of domains of Interleaves
 abbrev pub AreInterleaves : Parts → List ℕ → Type 0
@@ -21,17 +21,17 @@ AreInterleaves w numbers = (i : ℕ) → Among i numbers → is_interleave_numbe
 
 -- a poster that isn't through
 abbrev pub is_scripted : Work → Bool
-is_scripted (lines place sents) = true
+is_scripted (lines index sents) = true
 is_scripted round = false
 is_scripted (taking left queue queues) = false
-is_scripted (playing task place play) = false
-is_scripted (posting task place play sent) = false
+is_scripted (playing task index play) = false
+is_scripted (posting task index play sent) = false
 is_scripted (shedding task) = false
 is_scripted resting = false
 
 -- a poster at the end of its script leaves, and nobody else is through with one
 abbrev pub LeavesBy : Work → Work → Type 0
-LeavesBy before next = (is_scripted next ≡ is_scripted before) ⊎ ((place : ℕ) × (before ≡ lines place []) × (is_scripted next ≡ false))
+LeavesBy before next = (is_scripted next ≡ is_scripted before) ⊎ ((index : ℕ) × (before ≡ lines index []) × (is_scripted next ≡ false))
 
 pub record Worked (w : Parts) (st next : State) : Type 0 where
   pub hand : next.hand ≡ st.hand
@@ -40,7 +40,7 @@ pub record Worked (w : Parts) (st next : State) : Type 0 where
   pub numbers : AreInterleaves w st.domains → AreInterleaves w next.domains
   pub leaves : LeavesBy st.work next.work
 
-pub add_interleave : (w : Parts) (i : ℕ) (numbers : List ℕ) → AreInterleaves w numbers → AreInterleaves w (add_arbiter w i numbers)
+pub add_interleave : (w : Parts) (i : ℕ) (numbers : List ℕ) → AreInterleaves w numbers → AreInterleaves w (add_domain w i numbers)
 add_interleave w i numbers are = by (is_interleave_number w i) refl (list_any (λ other. other == i) numbers)
   where
     by : (b : Bool) → is_interleave_number w i ≡ b → (c : Bool) → AreInterleaves w (if b && not c then numbers ++ i ∷ [] else numbers)
@@ -115,29 +115,29 @@ takes w st left queue more (replies.Drawn k) none = takes_from w st left (queue 
 takes w st left queue more replies.Spent none = takes_from w st left (queue + 1) more none
 takes w st left queue more (replies.Left k) none = takes_from w st left (queue + 1) more none
 
-plays_on : (w : Parts) (st : State) (task : Task) (place : ℕ) (play : Play) (posts : List Sent) (r : Reply) → is_scripted st.work ≡ false → Worked w st (after_play w st task place play posts r)
-plays_on w st task place play [] r none = ends w st task play.end none
-plays_on w st task place play (sent ∷ posts) replies.Done none = record { hand = refl; phase = refl; attempt = refl; numbers = λ are. are; leaves = inl (sym none) }
-plays_on w st task place play (sent ∷ posts) (replies.Got ms) none = record { hand = refl; phase = refl; attempt = refl; numbers = λ are. are; leaves = inl (sym none) }
-plays_on w st task place play (sent ∷ posts) (replies.Busy u) none = record { hand = refl; phase = refl; attempt = refl; numbers = λ are. are; leaves = inl (sym none) }
-plays_on w st task place play (sent ∷ posts) (replies.Short k) none = record { hand = refl; phase = refl; attempt = refl; numbers = λ are. are; leaves = inl (sym none) }
-plays_on w st task place play (sent ∷ posts) (replies.Fired u cs) none = record { hand = refl; phase = refl; attempt = refl; numbers = λ are. are; leaves = inl (sym none) }
-plays_on w st task place play (sent ∷ posts) (replies.Dead by) none = record { hand = refl; phase = refl; attempt = refl; numbers = λ are. are; leaves = inl (sym none) }
-plays_on w st task place play (sent ∷ posts) (replies.Admitted u) none = record { hand = refl; phase = refl; attempt = refl; numbers = λ are. are; leaves = inl (sym none) }
-plays_on w st task place play (sent ∷ posts) replies.Booked none = record { hand = refl; phase = refl; attempt = refl; numbers = λ are. are; leaves = inl (sym none) }
-plays_on w st task place play (sent ∷ posts) (replies.Full k) none = record { hand = refl; phase = refl; attempt = refl; numbers = λ are. are; leaves = inl (sym none) }
-plays_on w st task place play (sent ∷ posts) (replies.Dropped u) none = record { hand = refl; phase = refl; attempt = refl; numbers = λ are. are; leaves = inl (sym none) }
-plays_on w st task place play (sent ∷ posts) (replies.Taken u) none = record { hand = refl; phase = refl; attempt = refl; numbers = λ are. are; leaves = inl (sym none) }
-plays_on w st task place play (sent ∷ posts) (replies.Drawn k) none = record { hand = refl; phase = refl; attempt = refl; numbers = λ are. are; leaves = inl (sym none) }
-plays_on w st task place play (sent ∷ posts) replies.Spent none = record { hand = refl; phase = refl; attempt = refl; numbers = λ are. are; leaves = inl (sym none) }
-plays_on w st task place play (sent ∷ posts) (replies.Left k) none = record { hand = refl; phase = refl; attempt = refl; numbers = λ are. are; leaves = inl (sym none) }
+plays_on : (w : Parts) (st : State) (task : Task) (index : ℕ) (play : Play) (posts : List Sent) (r : Reply) → is_scripted st.work ≡ false → Worked w st (after_play w st task index play posts r)
+plays_on w st task index play [] r none = ends w st task play.end none
+plays_on w st task index play (sent ∷ posts) replies.Done none = record { hand = refl; phase = refl; attempt = refl; numbers = λ are. are; leaves = inl (sym none) }
+plays_on w st task index play (sent ∷ posts) (replies.Got ms) none = record { hand = refl; phase = refl; attempt = refl; numbers = λ are. are; leaves = inl (sym none) }
+plays_on w st task index play (sent ∷ posts) (replies.Busy u) none = record { hand = refl; phase = refl; attempt = refl; numbers = λ are. are; leaves = inl (sym none) }
+plays_on w st task index play (sent ∷ posts) (replies.Short k) none = record { hand = refl; phase = refl; attempt = refl; numbers = λ are. are; leaves = inl (sym none) }
+plays_on w st task index play (sent ∷ posts) (replies.Fired u cs) none = record { hand = refl; phase = refl; attempt = refl; numbers = λ are. are; leaves = inl (sym none) }
+plays_on w st task index play (sent ∷ posts) (replies.Dead by) none = record { hand = refl; phase = refl; attempt = refl; numbers = λ are. are; leaves = inl (sym none) }
+plays_on w st task index play (sent ∷ posts) (replies.Admitted u) none = record { hand = refl; phase = refl; attempt = refl; numbers = λ are. are; leaves = inl (sym none) }
+plays_on w st task index play (sent ∷ posts) replies.Booked none = record { hand = refl; phase = refl; attempt = refl; numbers = λ are. are; leaves = inl (sym none) }
+plays_on w st task index play (sent ∷ posts) (replies.Full k) none = record { hand = refl; phase = refl; attempt = refl; numbers = λ are. are; leaves = inl (sym none) }
+plays_on w st task index play (sent ∷ posts) (replies.Dropped u) none = record { hand = refl; phase = refl; attempt = refl; numbers = λ are. are; leaves = inl (sym none) }
+plays_on w st task index play (sent ∷ posts) (replies.Taken u) none = record { hand = refl; phase = refl; attempt = refl; numbers = λ are. are; leaves = inl (sym none) }
+plays_on w st task index play (sent ∷ posts) (replies.Drawn k) none = record { hand = refl; phase = refl; attempt = refl; numbers = λ are. are; leaves = inl (sym none) }
+plays_on w st task index play (sent ∷ posts) replies.Spent none = record { hand = refl; phase = refl; attempt = refl; numbers = λ are. are; leaves = inl (sym none) }
+plays_on w st task index play (sent ∷ posts) (replies.Left k) none = record { hand = refl; phase = refl; attempt = refl; numbers = λ are. are; leaves = inl (sym none) }
 
 pub worked : (w : Parts) (st : State) (wk : Work) → st.work ≡ wk → (r : Reply) → Worked w st (after_work w st wk r)
-worked w st (lines place []) is r = record { hand = refl; phase = refl; attempt = refl; numbers = λ are. are; leaves = inr (place, is, refl) }
-worked w st (lines place (sent ∷ sents)) is r = record { hand = refl; phase = refl; attempt = refl; numbers = λ are. are; leaves = inl (sym (ap is_scripted is)) }
+worked w st (lines index []) is r = record { hand = refl; phase = refl; attempt = refl; numbers = λ are. are; leaves = inr (index, is, refl) }
+worked w st (lines index (sent ∷ sents)) is r = record { hand = refl; phase = refl; attempt = refl; numbers = λ are. are; leaves = inl (sym (ap is_scripted is)) }
 worked w st round is r = rounds w st r (ap is_scripted is)
 worked w st (taking left queue more) is r = takes w st left queue more r (ap is_scripted is)
-worked w st (playing task place play) is r = plays_on w st task place play play.posts r (ap is_scripted is)
-worked w st (posting task place play sent) is r = record { hand = refl; phase = refl; attempt = refl; numbers = λ are. are; leaves = inl (sym (ap is_scripted is)) }
+worked w st (playing task index play) is r = plays_on w st task index play play.posts r (ap is_scripted is)
+worked w st (posting task index play sent) is r = record { hand = refl; phase = refl; attempt = refl; numbers = λ are. are; leaves = inl (sym (ap is_scripted is)) }
 worked w st (shedding task) is r = overs w st task (ap is_scripted is)
 worked w st resting is r = stays w st

@@ -30,7 +30,7 @@ use Rattle.ccr_model.proofs.OneMoreEvent.{firings-push, put-push, cut-push}
 use Rattle.ccr_model.proofs.SameNames.{same_task-is, same_task-self}
 use Rattle.ccr_model.proofs.TasksLeft.{of_without, out_left, distinct-filter}
 use Rattle.ccr_model.proofs.TaskLists.{to_filter, to_without, not_within, of_more, of_one, out_right}
-use Rattle.ccr_model.proofs.TaskPlaces.{QueuedFacts-queued}
+use Rattle.ccr_model.proofs.WhoWasPut.{QueuedFacts-queued}
 use Rattle.ccr_model.proofs.TasksOnce.{fired_once, some_once, some_of_all}
 use Rattle.ccr_places.specs.declared.notes.Note.{Note}
 use Rattle.ccr_places.specs.declared.notes.Note.TheVariants as notes

@@ -36,7 +36,7 @@ use Rattle.ccr_model.proofs.OneMoreEvent.{ever_admitted-push}
 use Rattle.ccr_model.proofs.Roots.{AdmittedFacts-admitted}
 use Rattle.ccr_model.proofs.SameNames.{same_task-is, same_task-self}
 use Rattle.ccr_model.proofs.TaskLists.{without_other, without_first, of_more, of_one, has_oldest, none_gone}
-use Rattle.ccr_model.proofs.TaskPlaces.{placement_by}
+use Rattle.ccr_model.proofs.WhoWasPut.{placement_by}
 use Rattle.ccr_model.proofs.TasksOnce.{waiting_once, waits_in_one}
 use Rattle.ccr_model.specs.Consequences.{are_distinct_tasks}
 use Rattle.ccr_places.specs.declared.notes.Note.{Note}
@@ -124,7 +124,7 @@ its_group i k (suc j) (r ∷ ss) s at within = by (is_placement_in i r) refl (ap
     other : (k == (k + suc j)) ≡ false
     other = grind (arith, nat_tests)
 
-    behind : (g : Group) (gs : List Group) (o : Option ℕ) → option_and_then (λ place. slice_get (g ∷ gs) place) (option_map suc o) ≡ option_and_then (λ place. slice_get gs place) o
+    behind : (g : Group) (gs : List Group) (o : Option ℕ) → option_and_then (λ index. slice_get (g ∷ gs) index) (option_map suc o) ≡ option_and_then (λ index. slice_get gs index) o
     behind g gs None = refl
     behind g gs (Some n) = refl
 
@@ -268,11 +268,11 @@ oldest w h i place x others legal list match =
       facts = known;
       number = at_branch.number;
       branch = spot ∙ at_branch.is_branch;
-      s = at_branch.place;
-      placed = placement_by w h x.task known.firing known.is_firing ∙ ap (λ r. placement w (branch_of r)) at_branch.is_branch ∙ at_branch.is_place;
-      sits = at_branch.is_place;
+      s = at_branch.placement;
+      placed = placement_by w h x.task known.firing known.is_firing ∙ ap (λ r. placement w (branch_of r)) at_branch.is_branch ∙ at_branch.is_placement;
+      sits = at_branch.is_placement;
       within = at_branch.passes;
-      at_i = same_number at_branch.place.domain i (both (is_interleave at_branch.place.kind) (at_branch.place.domain == i) at_branch.passes).1;
+      at_i = same_number at_branch.placement.domain i (both (is_interleave at_branch.placement.kind) (at_branch.placement.domain == i) at_branch.passes).1;
       waits = waits_so;
     }
   where

@@ -1,4 +1,4 @@
--- What an attempt got is a choice of its pattern, and its names stand at the ports that it claimed alone.
+-- What an attempt got is a selection of its pattern, and its names stand at the ports that it claimed alone.
 use Rattle.std.proofs.Common.{◌⊎◌, inl, inr, ◌≡◌, ◌≤◌, ℕ, Bool, true, false, List, [], ◌∷◌, length, map, flat_map, find, Option, Some, None, refl, sym, arith, ap, ◌∙◌, subst}
 use Rattle.std.specs.Prelude.{fold, ◌==◌, if◌then◌else◌, nat_lt}
 use Rattle.std.specs.Option.{option_map_or}
@@ -6,13 +6,13 @@ use Rattle.std.proofs.lemmas.Bool.Decides.{nat_tests}
 use Rattle.ccr_base.specs.declared.names.MsgId.{MsgId}
 use Rattle.ccr_base.specs.declared.names.TaskId.{TaskId}
 use Rattle.ccr_base.specs.declared.patterns.Slot.{Slot}
-use Rattle.ccr_base.specs.Choice.{choice, fitting, is_choosable}
+use Rattle.ccr_base.specs.Selection.{selection, fitting, is_choosable}
 use Rattle.ccr_base.specs.Names.{same_task, same_message, has_task, has_message, same_lists}
 use Rattle.ccr_wiring.specs.declared.parts.Parts.{Parts}
 use Rattle.ccr_model.specs.declared.history.Event.{Event}
 use Rattle.ccr_model.specs.Posts.{posts, held}
 use Rattle.ccr_model.specs.Firings.{fired}
-use Rattle.ccr_model.specs.Choice.{choice_of_slots}
+use Rattle.ccr_model.specs.Selection.{selection_of_slots}
 use Rattle.ccr_base.proofs.Booleans.{same_number, eq-self, or_left, or_right, either}
 use Rattle.ccr_model.proofs.Members.{Among}
 use Rattle.ccr_model.proofs.PostNames.{AreNamed}
@@ -239,25 +239,25 @@ module _ (w : Parts) (h : List Event) (port : ℕ → PortState) (a : ℕ) (st :
                           let within : has_name d.messages name ≡ true = ap (λ ms. has_name ms name) (sym messages) ∙ other.2 in
                           absurd (cc)
 
-  -- what the claim of an even slot got is the slot's choice
-  pub choice_had : (d : Had) → Among d (had_in st.phase) → d.slot.least ≡ d.slot.most → choice d.slot (held h d.slot.port) ≡ Some d.messages
-  choice_had d is even =
+  -- what the claim of an even slot got is the slot's selection
+  pub selection_had : (d : Had) → Among d (had_in st.phase) → d.slot.least ≡ d.slot.most → selection d.slot (held h d.slot.port) ≡ Some d.messages
+  selection_had d is even =
       let enough = own.had_enough d is in
       let count : length d.messages ≡ d.slot.most = omega (arith, enough.0, enough.1, even) in
       let fits = enough_had d is in
       let choosable : is_choosable d.slot (port d.slot.port).items ≡ true = grind (arith, nat_tests, fits, count, even) in
-      ap (choice d.slot) (held_had d is) ∙ rw choosable (ap Some (ap (λ n. first_fitting n d.slot.pred (port d.slot.port).items) (sym count) ∙ own.had_marked d is))
+      ap (selection d.slot) (held_had d is) ∙ rw choosable (ap Some (ap (λ n. first_fitting n d.slot.pred (port d.slot.port).items) (sym count) ∙ own.had_marked d is))
 
-  pub choice_slots : (slots : List Slot) → ((slot : Slot) → Among slot slots → ((d : Had) × Among d (had_in st.phase) × (d.slot ≡ slot)) × (slot.least ≡ slot.most)) → choice_of_slots (held h) slots ≡ Some (flat_map (had_at (had_in st.phase)) (map (λ (s : Slot). s.port) slots))
-  choice_slots [] each = refl
-  choice_slots (slot ∷ slots) each =
+  pub selection_slots : (slots : List Slot) → ((slot : Slot) → Among slot slots → ((d : Had) × Among d (had_in st.phase) × (d.slot ≡ slot)) × (slot.least ≡ slot.most)) → selection_of_slots (held h) slots ≡ Some (flat_map (had_at (had_in st.phase)) (map (λ (s : Slot). s.port) slots))
+  selection_slots [] each = refl
+  selection_slots (slot ∷ slots) each =
       let here = each slot (inl refl) in
-      let rest = choice_slots slots (λ s is. each s (inr is)) in
-      let now : choice slot (held h slot.port) ≡ Some (had_at (had_in st.phase) slot.port) = of_had here.0 here.1 in
+      let rest = selection_slots slots (λ s is. each s (inr is)) in
+      let now : selection slot (held h slot.port) ≡ Some (had_at (had_in st.phase) slot.port) = of_had here.0 here.1 in
       rw (now, rest) refl
     where
-      of_had : (d : Had) × Among d (had_in st.phase) × (d.slot ≡ slot) → slot.least ≡ slot.most → choice slot (held h slot.port) ≡ Some (had_at (had_in st.phase) slot.port)
-      of_had found even = subst (λ (s : Slot). choice s (held h s.port) ≡ Some (had_at (had_in st.phase) s.port)) found.2 (choice_had found.0 found.1 (subst (λ (s : Slot). s.least ≡ s.most) (sym found.2) even) ∙ ap Some (sym (had_at-is found.0 found.1)))
+      of_had : (d : Had) × Among d (had_in st.phase) × (d.slot ≡ slot) → slot.least ≡ slot.most → selection slot (held h slot.port) ≡ Some (had_at (had_in st.phase) slot.port)
+      of_had found even = subst (λ (s : Slot). selection s (held h s.port) ≡ Some (had_at (had_in st.phase) s.port)) found.2 (selection_had found.0 found.1 (subst (λ (s : Slot). s.least ≡ s.most) (sym found.2) even) ∙ ap Some (sym (had_at-is found.0 found.1)))
 
 pub same_lists-self : (names : List MsgId) → same_lists same_message names names ≡ true
 same_lists-self [] = refl

@@ -91,20 +91,20 @@ count-within (suc n) f t ts there apart = by (f n) refl (count-within n f t ts (
 -- ---- the meter
 
 abbrev pub is_posting : Work → Bool
-is_posting (lines place sents) = false
+is_posting (lines index sents) = false
 is_posting round = false
 is_posting (taking left queue queues) = false
-is_posting (playing task place play) = false
-is_posting (posting task place play sent) = true
+is_posting (playing task index play) = false
+is_posting (posting task index play sent) = true
 is_posting (shedding task) = false
 is_posting resting = false
 
 abbrev pub is_shedding : Work → Bool
-is_shedding (lines place sents) = false
+is_shedding (lines index sents) = false
 is_shedding round = false
 is_shedding (taking left queue queues) = false
-is_shedding (playing task place play) = false
-is_shedding (posting task place play sent) = false
+is_shedding (playing task index play) = false
+is_shedding (posting task index play sent) = false
 is_shedding (shedding task) = true
 is_shedding resting = false
 

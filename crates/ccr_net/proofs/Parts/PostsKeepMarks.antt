@@ -6,7 +6,7 @@ use Rattle.std.proofs.lemmas.Bool.Decides.{nat_tests}
 use Rattle.ccr_base.specs.declared.messages.Msg.{Msg}
 use Rattle.ccr_base.specs.declared.names.MsgId.{MsgId}
 use Rattle.ccr_base.specs.declared.patterns.Pred.{Pred}
-use Rattle.ccr_base.specs.Choice.{holds, fitting}
+use Rattle.ccr_base.specs.Selection.{holds, fitting}
 use Rattle.ccr_base.specs.Names.{same_message, has_message}
 use Rattle.ccr_places.specs.Ports.{first_fitting, without_first}
 use Rattle.ccr_claim.specs.Plans.{names_of}

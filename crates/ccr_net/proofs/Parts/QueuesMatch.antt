@@ -23,7 +23,7 @@ use Rattle.ccr_base.proofs.Options.{some_of}
 use Rattle.ccr_model.proofs.SameNames.{same_task-is}
 use Rattle.ccr_model.proofs.TaskSteps.{queued-put, queued-start}
 use Rattle.ccr_model.proofs.TaskLists.{without_other, without_first, not_more, not_within, has_oldest, none_gone}
-use Rattle.ccr_model.proofs.TaskPlaces.{ArePlaced-legal, QueuedFacts-queued}
+use Rattle.ccr_model.proofs.WhoWasPut.{ArePlaced-legal, QueuedFacts-queued}
 use Rattle.ccr_model.proofs.Queued.{queued_once}
 use Rattle.ccr_places.specs.declared.notes.Note.{Note}
 use Rattle.ccr_places.specs.declared.notes.Note.TheVariants as notes

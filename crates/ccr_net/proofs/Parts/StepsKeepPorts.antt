@@ -8,7 +8,7 @@ use Rattle.ccr_base.specs.declared.names.MsgId.{MsgId}
 use Rattle.ccr_base.specs.declared.names.Spot.{Spot}
 use Rattle.ccr_base.specs.declared.messages.Msg.{Msg}
 use Rattle.ccr_base.specs.declared.patterns.Slot.{Slot}
-use Rattle.ccr_base.specs.Choice.{fitting}
+use Rattle.ccr_base.specs.Selection.{fitting}
 use Rattle.ccr_base.specs.Names.{same_task, same_message, has_task, has_message}
 use Rattle.ccr_model.specs.declared.history.Event.{Event}
 use Rattle.ccr_model.specs.declared.history.Event.TheVariants as events
@@ -20,6 +20,7 @@ use Rattle.ccr_model.proofs.OneMoreEvent.{fired-fire}
 use Rattle.ccr_model.proofs.PostNames.{times, AreNamed}
 use Rattle.ccr_model.proofs.SameNames.{same_task-self, same_message-self}
 use Rattle.ccr_model.proofs.MessageNames.{has_message-append}
+use Rattle.ccr_model.proofs.TakenOnce.{times-filter}
 use Rattle.ccr_places.specs.declared.claims.StandingClaim.{StandingClaim}
 use Rattle.ccr_places.specs.declared.notes.ClaimNote.TheVariants.{Got}
 use Rattle.ccr_places.specs.declared.notes.Note.{Note}
@@ -168,22 +169,12 @@ unmarked-other gone port t other = of_claim port.claim refl
 pub has_task-last : (ts : List TaskId) (t : TaskId) → has_task (ts ++ t ∷ []) t ≡ true
 has_task-last ts t = grind (arith, common_steps, same_task-self t)
 
-times-filter : (test : Msg → Bool) (ms : List Msg) (name : MsgId) → times name (filter test ms) ≤ times name ms
-times-filter test [] name = omega arith
-times-filter test (m ∷ ms) name = by (test m) (same_message m.id name) refl (times-filter test ms name)
-  where
-    by : (b c : Bool) → same_message m.id name ≡ c → times name (filter test ms) ≤ times name ms → times name (if b then m ∷ filter test ms else filter test ms) ≤ times name (m ∷ ms)
-    by true true e le = grind (arith, e, le)
-    by true false e le = grind (arith, e, le)
-    by false true e le = grind (arith, e, le)
-    by false false e le = grind (arith, e, le)
-
 -- what is held has names of its own
 pub held_once : (h : List Event) (p : ℕ) (name : MsgId) → AreNamed (posts h) → times name (held h p) ≤ 1
 held_once h p name named =
     let one = named.once name in
-    let two = times-filter (λ (m : Msg). m.port == p) (posts h) name in
-    let three = times-filter (λ (m : Msg). not (has_message (taken h) m.id)) (posted h p) name in
+    let two = times-filter name (λ (m : Msg). m.port == p) (posts h) in
+    let three = times-filter name (λ (m : Msg). not (has_message (taken h) m.id)) (posted h p) in
     omega (arith, one, two, three)
 
 pub PortsMatch-fire : (h : List Event) (port : ℕ → PortState) (t : TaskId) (s : Spot) (names : List MsgId) (cs : List TaskId) → AreNamed (posts h) → has_task (fired h) t ≡ false → ((q : ℕ) → IsTouched h port t names q) → ((name : MsgId) → has_message names name ≡ true → has_name (posts h) name ≡ true) → PortsMatch h port → PortsMatch (h ++ events.Fire t s names cs ∷ []) port

@@ -16,7 +16,7 @@ use Rattle.ccr_model.proofs.PostNames.{along, refused_not}
 use Rattle.ccr_model.proofs.SameNames.{same_task-self}
 use Rattle.ccr_model.proofs.TasksLeft.{of_without}
 use Rattle.ccr_model.proofs.TaskLists.{of_more, of_one, among_left, to_without}
-use Rattle.ccr_model.proofs.TaskPlaces.{StartFacts-allowed, StartFacts-queued}
+use Rattle.ccr_model.proofs.WhoWasPut.{StartFacts-allowed, StartFacts-queued}
 
 -- the tasks that the actor started
 abbrev pub starts : List Event → ℕ → List TaskId

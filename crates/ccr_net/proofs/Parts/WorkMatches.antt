@@ -30,20 +30,20 @@ use Rattle.ccr_net.proofs.Parts.TasksStartOnce.{starts, running_by-push, AreStar
 use Rattle.ccr_model.proofs.TasksLeft.{without_both}
 
 -- the task that a worker runs, how many of its posts are made, and those that are left
-pub record RunsTask (w : Parts) (h : List Event) (a : ℕ) (task : Task) (place : ℕ) (left : List Sent) : Type 0 where
+pub record RunsTask (w : Parts) (h : List Event) (a : ℕ) (task : Task) (index : ℕ) (left : List Sent) : Type 0 where
   pub worker : length w.posters ≤ a
   pub alone : running_by h a ≡ task.id ∷ []
   pub fires : IsFired h task.id
   pub as_seen : task ≡ view w h task.id
-  pub place_so : place ≡ posts_of_task h task.id
-  pub left_so : left ≡ drop place (play_in w task).posts
+  pub index_so : index ≡ posts_of_task h task.id
+  pub left_so : left ≡ drop index (play_in w task).posts
 
 -- a poster in its script
-pub record Scripted (w : Parts) (h : List Event) (a : ℕ) (place : ℕ) (sents : List Sent) : Type 0 where
+pub record Scripted (w : Parts) (h : List Event) (a : ℕ) (index : ℕ) (sents : List Sent) : Type 0 where
   pub poster : PosterPart
   pub is_poster : slice_get w.posters a ≡ Some poster
-  pub place_so : place ≡ posts_of_poster h a
-  pub left_so : sents ≡ drop place poster.posts
+  pub index_so : index ≡ posts_of_poster h a
+  pub left_so : sents ≡ drop index poster.posts
 
 -- a worker without a task
 pub record Idle (w : Parts) (h : List Event) (a : ℕ) : Type 0 where
@@ -52,12 +52,12 @@ pub record Idle (w : Parts) (h : List Event) (a : ℕ) : Type 0 where
 
 -- what the work of an actor says of the history
 abbrev pub WorkMatches : Parts → List Event → ℕ → Work → Type 0
-WorkMatches w h a (lines place sents) = Scripted w h a place sents
+WorkMatches w h a (lines index sents) = Scripted w h a index sents
 WorkMatches w h a round = Idle w h a
 WorkMatches w h a (taking left queue queues) = Idle w h a
-WorkMatches w h a (playing task place play) = RunsTask w h a task place play.posts × (play.end ≡ (play_in w task).end)
-WorkMatches w h a (posting task place play sent) = RunsTask w h a task place (sent ∷ play.posts) × (play.end ≡ (play_in w task).end)
-WorkMatches w h a (shedding task) = (place : ℕ) × (sent : Sent) × (posts : List Sent) × RunsTask w h a task place (sent ∷ posts)
+WorkMatches w h a (playing task index play) = RunsTask w h a task index play.posts × (play.end ≡ (play_in w task).end)
+WorkMatches w h a (posting task index play sent) = RunsTask w h a task index (sent ∷ play.posts) × (play.end ≡ (play_in w task).end)
+WorkMatches w h a (shedding task) = (index : ℕ) × (sent : Sent) × (posts : List Sent) × RunsTask w h a task index (sent ∷ posts)
 WorkMatches w h a resting = Unit {0}
 
 -- ---- what a history says of a fired task stays
@@ -79,22 +79,22 @@ pub record SaysSame (h : List Event) (e : Event) (a : ℕ) : Type 0 where
 pub WorkMatches-same : (w : Parts) (h : List Event) (e : Event) (a : ℕ) (work : Work) → SaysSame h e a → WorkMatches w h a work → WorkMatches w (h ++ e ∷ []) a work
 WorkMatches-same w h e a work says match = by work match
   where
-    runs_on : (task : Task) (place : ℕ) (left : List Sent) → RunsTask w h a task place left → RunsTask w (h ++ e ∷ []) a task place left
-    runs_on task place left is = record {
+    runs_on : (task : Task) (index : ℕ) (left : List Sent) → RunsTask w h a task index left → RunsTask w (h ++ e ∷ []) a task index left
+    runs_on task index left is = record {
       worker = is.worker;
       alone = says.one task.id is.alone;
       fires = IsFired-append h (e ∷ []) task.id is.fires;
       as_seen = is.as_seen ∙ sym (view-stays w h (e ∷ []) task.id is.fires);
-      place_so = is.place_so ∙ sym (says.same_posts task.id is.alone);
+      index_so = is.index_so ∙ sym (says.same_posts task.id is.alone);
       left_so = is.left_so;
     }
 
     by : (work : Work) → WorkMatches w h a work → WorkMatches w (h ++ e ∷ []) a work
-    by (lines place sents) is = record { poster = is.poster; is_poster = is.is_poster; place_so = is.place_so ∙ sym says.script; left_so = is.left_so }
+    by (lines index sents) is = record { poster = is.poster; is_poster = is.is_poster; index_so = is.index_so ∙ sym says.script; left_so = is.left_so }
     by round is = record { worker = is.worker; none = says.none is.none }
     by (taking left queue queues) is = record { worker = is.worker; none = says.none is.none }
-    by (playing task place play) is = (runs_on task place play.posts is.0, is.1)
-    by (posting task place play sent) is = (runs_on task place (sent ∷ play.posts) is.0, is.1)
+    by (playing task index play) is = (runs_on task index play.posts is.0, is.1)
+    by (posting task index play sent) is = (runs_on task index (sent ∷ play.posts) is.0, is.1)
     by (shedding task) is = (is.0, is.1, is.2, runs_on task is.0 (is.1 ∷ is.2) is.3)
     by resting is = tt
 

@@ -3,6 +3,7 @@ use Rattle.std.proofs.Common.{◌≡◌, ◌⊎◌, inl, inr, ◌≤◌, ◌^◌
 use Rattle.std.specs.Prelude.{◌==◌, ◌||◌, if◌then◌else◌, nat_lt}
 use Rattle.std.specs.Option.{option_map, option_map_or}
 use Rattle.std.proofs.lemmas.Grind.{common_steps}
+use Rattle.std.proofs.lemmas.Option.{same_Some}
 use Rattle.ccr_base.specs.declared.messages.Msg.{Msg}
 use Rattle.ccr_base.specs.declared.messages.Sent.{Sent}
 use Rattle.ccr_base.specs.declared.names.MsgId.{MsgId}
@@ -52,7 +53,7 @@ use Rattle.ccr_runs.specs.Views.{view}
 use Rattle.ccr_runs.specs.Visible.{visible, shown}
 use Rattle.ccr_net.proofs.Parts.StepsKeepActors.{unfired}
 use Rattle.ccr_net.proofs.Kept.WholeInvariant.{Holds, hand_settles, spots_drive}
-use Rattle.ccr_net.proofs.Parts.GotIsAChoice.{in_ports}
+use Rattle.ccr_net.proofs.Parts.GotIsASelection.{in_ports}
 use Rattle.ccr_net.proofs.Parts.PortsAndHandsMatch.{ActorMatches, IsOwed, PortsMatch}
 use Rattle.ccr_net.proofs.Parts.GotNamesStandAlone.{held_had}
 use Rattle.ccr_net.proofs.Parts.PhasesFitPlans.{SpotFits}
@@ -225,9 +226,6 @@ pub record IsBuilt (w : Parts) (es : List Entry) (e : Entry) (i : ℕ) (task : T
 abbrev pub IsResuming : Parts → List Entry → Entry → ℕ → ℕ → Task → List MsgId → Type 0
 IsResuming w es e b k task ms = (u : TaskId) (others : List TaskId) (cs : List TaskId) → suspended (visible es) (Site b k) ≡ u ∷ others → e.note ≡ notes.Fired task.id task.spot ms cs → resumed (suspended_view w (visible es) u) task ≡ view w (visible (es ++ e ∷ [])) task.id
 
-pub inside : {X : Type 0} {a b : X} → Some a ≡ Some b → a ≡ b
-inside is = cc
-
 -- a commit by its place, its task and its messages
 record SameCommit (place place' : Place) (task task' : Task) (ms ms' : List MsgId) : Type 0 where
   places_so : place ≡ place'
@@ -236,7 +234,7 @@ record SameCommit (place place' : Place) (task task' : Task) (ms ms' : List MsgI
 
 same_commit : (place place' : Place) (task task' : Task) (ms ms' : List MsgId) → Some (at_place place (asks.Commit task ms)) ≡ Some (at_place place' (asks.Commit task' ms')) → SameCommit place place' task task' ms ms'
 same_commit place place' task task' ms ms' is =
-    let one : at_place place (asks.Commit task ms) ≡ at_place place' (asks.Commit task' ms') = inside is in
+    let one : at_place place (asks.Commit task ms) ≡ at_place place' (asks.Commit task' ms') = same_Some _ _ is in
     let asked : asks.Commit task ms ≡ asks.Commit task' ms' = ap (λ (x : Asked). x.ask) one in
     record { places_so = ap (λ (x : Asked). x.place) one; tasks_so = cc; names_so = cc }
 
@@ -303,9 +301,9 @@ module _ (w : Parts) (n : ℕ) (lacks : Lacks) (es : List Entry) (e : Entry) (ho
       by_phase spot fits (claiming [] had) phase same = record { spot = spot; fits = fits; had = had; phase = phase; asks_so = same }
 
       by : (tu : Turn) → turn before_it ≡ tu → ask_in w e.actor before_it tu ≡ Some asking → Commits place task ms
-      by (settle x more) turns same = absurd (owes x ((holds.actors e.actor).claims.owed x (subst (Among x) (sym (hand_settles before_it.is_short before_it.hand before_it.domains (spots_left before_it) x more turns)) (inl refl))) (ap (λ (y : Asked). y.ask) (inside same)))
-      by (admit i more) turns same = absurd (let asked = ap (λ (x : Asked). x.ask) (inside same) in cc)
-      by (drive spot more) turns same = by_phase spot (spots_so spot more (spots_drive before_it.is_short before_it.hand before_it.domains (spots_left before_it) spot more turns).1) before_it.phase refl (inside same)
+      by (settle x more) turns same = absurd (owes x ((holds.actors e.actor).claims.owed x (subst (Among x) (sym (hand_settles before_it.is_short before_it.hand before_it.domains (spots_left before_it) x more turns)) (inl refl))) (ap (λ (y : Asked). y.ask) (same_Some _ _ same)))
+      by (admit i more) turns same = absurd (let asked = ap (λ (x : Asked). x.ask) (same_Some _ _ same) in cc)
+      by (drive spot more) turns same = by_phase spot (spots_so spot more (spots_drive before_it.is_short before_it.hand before_it.domains (spots_left before_it) spot more turns).1) before_it.phase refl (same_Some _ _ same)
       by go_on turns same = absurd (work_commits e.actor before_it.work place task ms same)
       by stop turns same = absurd (cc)
 

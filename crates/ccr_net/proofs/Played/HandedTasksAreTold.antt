@@ -1,5 +1,6 @@
 -- The tasks that actors hand in are those that the visible history tells: a put task, and a suspended one.
 use Rattle.std.proofs.Common.{◌≡◌, inl, inr, ℕ, ◌+◌, Bool, true, false, List, [], ◌∷◌, ◌++◌, length, map, reverse, Option, Some, None, refl, sym, ap, ◌∙◌, subst}
+use Rattle.std.proofs.lemmas.Option.{same_Some}
 use Rattle.std.specs.Prelude.{◌==◌, ◌||◌, if◌then◌else◌, nat_lt, nat_le}
 use Rattle.std.specs.List.{slice_get}
 use Rattle.std.specs.Option.{option_map, option_map_or}
@@ -38,7 +39,6 @@ use Rattle.ccr_runs.specs.Visible.{visible, event_of}
 use Rattle.ccr_net.proofs.Kept.WholeInvariant.{Holds, IsBegun, begins, hand_settles}
 use Rattle.ccr_net.proofs.Parts.PortsAndHandsMatch.{IsOwed}
 use Rattle.ccr_net.proofs.Played.ObjectsFollowNotes.{suspended_view}
-use Rattle.ccr_net.proofs.Played.BuiltTasksAreTold.{inside}
 use Rattle.ccr_net.proofs.Parts.OneMoreEntry.{IsNextState, Step, state_of-other, state_of-own, visible-push}
 use Rattle.ccr_net.proofs.Parts.WorkMatches.{WorkMatches, RunsTask, play-view, view-stays}
 
@@ -54,8 +54,8 @@ PutTells w h _ = Unit {0}
 
 -- the causes that are kept with a play are those at its end
 abbrev pub CausesTell : Parts → Work → Type 0
-CausesTell w (playing task place play) = play.causes ≡ (play_in w task).causes
-CausesTell w (posting task place play sent) = play.causes ≡ (play_in w task).causes
+CausesTell w (playing task index play) = play.causes ≡ (play_in w task).causes
+CausesTell w (posting task index play sent) = play.causes ≡ (play_in w task).causes
 CausesTell w _ = Unit {0}
 
 abbrev pub HandSeen : Parts → List Event → List Asked → Type 0
@@ -234,8 +234,8 @@ module _ (w : Parts) (h : List Event) (a : ℕ) (st : State) (seen : Seen w h st
   end_seen task (plays.Yield site) = record { hands = seen.hands; plays = rounds_on }
 
   work_seen : (work : Work) → CausesTell w work → (reply : Reply) → Seen w h (after_work w st work reply)
-  work_seen (lines place []) known reply = record { hands = seen.hands; plays = tt }
-  work_seen (lines place (sent ∷ sents)) known reply = record { hands = seen.hands; plays = tt }
+  work_seen (lines index []) known reply = record { hands = seen.hands; plays = tt }
+  work_seen (lines index (sent ∷ sents)) known reply = record { hands = seen.hands; plays = tt }
   work_seen round known reply = round_by reply
     where
       round_by : (reply : Reply) → Seen w h (after_work w st round reply)
@@ -271,28 +271,28 @@ module _ (w : Parts) (h : List Event) (a : ℕ) (st : State) (seen : Seen w h st
       taking_by left q more (replies.Drawn k) = take_from_seen left (q + 1) more
       taking_by left q more replies.Spent = take_from_seen left (q + 1) more
       taking_by left q more (replies.Left k) = take_from_seen left (q + 1) more
-  work_seen (playing task place play) known reply = by play.posts
+  work_seen (playing task index play) known reply = by play.posts
     where
-      post_by : (task : Task) (place : ℕ) (play : Play) (sent : Sent) (more : List Sent) → play.causes ≡ (play_in w task).causes → (reply : Reply) → Seen w h (after_play w st task place play (sent ∷ more) reply)
-      post_by task place play sent more known replies.Done = record { hands = seen.hands; plays = tt }
-      post_by task place play sent more known (replies.Got ms) = record { hands = seen.hands; plays = tt }
-      post_by task place play sent more known (replies.Busy t) = record { hands = seen.hands; plays = tt }
-      post_by task place play sent more known (replies.Short k) = record { hands = seen.hands; plays = tt }
-      post_by task place play sent more known (replies.Fired o cuts) = record { hands = seen.hands; plays = tt }
-      post_by task place play sent more known (replies.Dead cause) = record { hands = seen.hands; plays = tt }
-      post_by task place play sent more known (replies.Admitted o) = record { hands = seen.hands; plays = tt }
-      post_by task place play sent more known replies.Booked = record { hands = seen.hands; plays = tt }
-      post_by task place play sent more known (replies.Full k) = record { hands = seen.hands; plays = tt }
-      post_by task place play sent more known (replies.Dropped o) = record { hands = seen.hands; plays = tt }
-      post_by task place play sent more known (replies.Taken o) = record { hands = seen.hands; plays = tt }
-      post_by task place play sent more known (replies.Drawn k) = record { hands = seen.hands; plays = known }
-      post_by task place play sent more known replies.Spent = record { hands = seen.hands; plays = tt }
-      post_by task place play sent more known (replies.Left k) = record { hands = seen.hands; plays = tt }
+      post_by : (task : Task) (index : ℕ) (play : Play) (sent : Sent) (more : List Sent) → play.causes ≡ (play_in w task).causes → (reply : Reply) → Seen w h (after_play w st task index play (sent ∷ more) reply)
+      post_by task index play sent more known replies.Done = record { hands = seen.hands; plays = tt }
+      post_by task index play sent more known (replies.Got ms) = record { hands = seen.hands; plays = tt }
+      post_by task index play sent more known (replies.Busy t) = record { hands = seen.hands; plays = tt }
+      post_by task index play sent more known (replies.Short k) = record { hands = seen.hands; plays = tt }
+      post_by task index play sent more known (replies.Fired o cuts) = record { hands = seen.hands; plays = tt }
+      post_by task index play sent more known (replies.Dead cause) = record { hands = seen.hands; plays = tt }
+      post_by task index play sent more known (replies.Admitted o) = record { hands = seen.hands; plays = tt }
+      post_by task index play sent more known replies.Booked = record { hands = seen.hands; plays = tt }
+      post_by task index play sent more known (replies.Full k) = record { hands = seen.hands; plays = tt }
+      post_by task index play sent more known (replies.Dropped o) = record { hands = seen.hands; plays = tt }
+      post_by task index play sent more known (replies.Taken o) = record { hands = seen.hands; plays = tt }
+      post_by task index play sent more known (replies.Drawn k) = record { hands = seen.hands; plays = known }
+      post_by task index play sent more known replies.Spent = record { hands = seen.hands; plays = tt }
+      post_by task index play sent more known (replies.Left k) = record { hands = seen.hands; plays = tt }
 
-      by : (ps : List Sent) → Seen w h (after_play w st task place play ps reply)
+      by : (ps : List Sent) → Seen w h (after_play w st task index play ps reply)
       by [] = end_seen task play.end
-      by (sent ∷ more) = post_by task place play sent more known reply
-  work_seen (posting task place play sent) known reply = record { hands = seen.hands; plays = known }
+      by (sent ∷ more) = post_by task index play sent more known reply
+  work_seen (posting task index play sent) known reply = record { hands = seen.hands; plays = known }
   work_seen (shedding task) known reply = record { hands = seen.hands; plays = rounds_on }
   work_seen resting known reply = seen
 
@@ -406,14 +406,14 @@ work_puts : (w : Parts) (h : List Event) (a : ℕ) (work : Work) (x : Asked) →
 work_puts w h a work x is = by work is
   where
     one : (y : Asked) → PutTells w h y.ask → Some y ≡ Some x → PutTells w h x.ask
-    one y known same = subst (λ (z : Asked). PutTells w h z.ask) (inside same) known
+    one y known same = subst (λ (z : Asked). PutTells w h z.ask) (same_Some _ _ same) known
 
     by : (work : Work) → work_ask a work ≡ Some x → PutTells w h x.ask
-    by (lines place []) is = one _ tt is
-    by (lines place (sent ∷ sents)) is = one _ tt is
+    by (lines index []) is = one _ tt is
+    by (lines index (sent ∷ sents)) is = one _ tt is
     by round is = one _ tt is
     by (taking left q more) is = one _ tt is
-    by (playing task place play) is = of_posts play.posts is
+    by (playing task index play) is = of_posts play.posts is
       where
         of_end : (pe : PlayEnd) → Some (end_ask task play pe) ≡ Some x → PutTells w h x.ask
         of_end plays.Done same = one _ tt same
@@ -423,7 +423,7 @@ work_puts w h a work x is = by work is
         of_posts : (ps : List Sent) → Some (play_ask task play ps) ≡ Some x → PutTells w h x.ask
         of_posts [] same = of_end play.end same
         of_posts (sent ∷ ps) same = one _ tt same
-    by (posting task place play sent) is = one _ tt is
+    by (posting task index play sent) is = one _ tt is
     by (shedding task) is = one _ tt is
     by resting is = absurd (cc)
 
@@ -441,9 +441,9 @@ module _ (w : Parts) (n : ℕ) (lacks : Lacks) (es : List Entry) (e : Entry) (ho
       by : (tu : Turn) → turn before ≡ tu → ask_in w e.actor before tu ≡ Some step.asking → PutTells w h step.asking.ask
       by (settle x more) turns is =
           let among : Among x before.hand = subst (Among x) (sym (hand_settles before.is_short before.hand before.domains (spots_left before) x more turns)) (inl refl) in
-          subst (λ (y : Asked). PutTells w h y.ask) (inside is) (fired_too w h e.actor before.attempt x.place x.ask ((holds.actors e.actor).claims.owed x among) ((handed e.actor).hands x among))
-      by (admit i more) turns is = subst (λ (y : Asked). PutTells w h y.ask) (inside is) tt
-      by (drive spot more) turns is = subst (λ (y : Asked). PutTells w h y.ask) (inside is) (attempt_puts w h (plan_of w spot) (name_at e.actor before) before.phase)
+          subst (λ (y : Asked). PutTells w h y.ask) (same_Some _ _ is) (fired_too w h e.actor before.attempt x.place x.ask ((holds.actors e.actor).claims.owed x among) ((handed e.actor).hands x among))
+      by (admit i more) turns is = subst (λ (y : Asked). PutTells w h y.ask) (same_Some _ _ is) tt
+      by (drive spot more) turns is = subst (λ (y : Asked). PutTells w h y.ask) (same_Some _ _ is) (attempt_puts w h (plan_of w spot) (name_at e.actor before) before.phase)
       by go_on turns is = work_puts w h e.actor before.work step.asking is
       by stop turns is = absurd (cc)
 
@@ -462,23 +462,23 @@ module _ (w : Parts) (n : ℕ) (lacks : Lacks) (es : List Entry) (e : Entry) (ho
       attempts spot (claiming [] had) same = absurd (cc)
       attempts spot (claiming (slot ∷ slots) had) same = absurd (cc)
 
-      runs : (t : Task) (place : ℕ) (play : Play) (left : List Sent) → RunsTask w h e.actor t place left → play.causes ≡ (play_in w t).causes → record t { causes = play.causes } ≡ task → Done
-      runs t place play left run causes same = subst (λ (x : Task). IsFired h x.id × (x ≡ suspended_view w h x.id)) same (run.fires, λ j. record (run.as_seen j) { causes = whole j })
+      runs : (t : Task) (index : ℕ) (play : Play) (left : List Sent) → RunsTask w h e.actor t index left → play.causes ≡ (play_in w t).causes → record t { causes = play.causes } ≡ task → Done
+      runs t index play left run causes same = subst (λ (x : Task). IsFired h x.id × (x ≡ suspended_view w h x.id)) same (run.fires, λ j. record (run.as_seen j) { causes = whole j })
         where
           whole : play.causes ≡ (play_of w h t.id).causes
           whole = causes ∙ ap (λ (p : Play). p.causes) (ap (play_in w) run.as_seen ∙ play-view w h t.id run.fires)
 
       works : (work : Work) → WorkMatches w h e.actor work → CausesTell w work → ask_so (work_ask e.actor work) ≡ Some (asks.Suspend task) → Done
-      works (lines place []) match known same = absurd (cc)
-      works (lines place (sent ∷ sents)) match known same = absurd (cc)
+      works (lines index []) match known same = absurd (cc)
+      works (lines index (sent ∷ sents)) match known same = absurd (cc)
       works round match known same = absurd (cc)
       works (taking left q more) match known same = absurd (cc)
-      works (playing t place play) match known same = of_posts play.posts same
+      works (playing t index play) match known same = of_posts play.posts same
         where
           of_end : (pe : PlayEnd) → Some (end_ask t play pe).ask ≡ Some (asks.Suspend task) → Done
           of_end plays.Done same = absurd (cc)
           of_end (plays.Failed v) same = absurd (cc)
-          of_end (plays.Yield site) same = runs t place play play.posts match.0 known (suspends same)
+          of_end (plays.Yield site) same = runs t index play play.posts match.0 known (suspends same)
             where
               suspends : {x y : Task} → Some (asks.Suspend x) ≡ Some (asks.Suspend y) → x ≡ y
               suspends eq = cc
@@ -486,12 +486,12 @@ module _ (w : Parts) (n : ℕ) (lacks : Lacks) (es : List Entry) (e : Entry) (ho
           of_posts : (ps : List Sent) → Some (play_ask t play ps).ask ≡ Some (asks.Suspend task) → Done
           of_posts [] same = of_end play.end same
           of_posts (sent ∷ ps) same = absurd (cc)
-      works (posting t place play sent) match known same = absurd (cc)
+      works (posting t index play sent) match known same = absurd (cc)
       works (shedding t) match known same = absurd (cc)
       works resting match known same = absurd (cc)
 
       by : (tu : Turn) → turn before ≡ tu → ask_so (ask_in w e.actor before tu) ≡ Some (asks.Suspend task) → Done
-      by (settle x more) turns same = owes x ((holds.actors e.actor).claims.owed x (subst (Among x) (sym (hand_settles before.is_short before.hand before.domains (spots_left before) x more turns)) (inl refl))) (inside same)
+      by (settle x more) turns same = owes x ((holds.actors e.actor).claims.owed x (subst (Among x) (sym (hand_settles before.is_short before.hand before.domains (spots_left before) x more turns)) (inl refl))) (same_Some _ _ same)
       by (admit i more) turns same = absurd (cc)
       by (drive spot more) turns same = attempts spot before.phase same
       by go_on turns same = works before.work (holds.actors e.actor).work (handed e.actor).plays same

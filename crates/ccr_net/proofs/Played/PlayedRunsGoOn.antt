@@ -4,6 +4,7 @@ use Rattle.std.specs.Prelude.{◌==◌, cond, slice_get, slice_set}
 use Rattle.std.specs.List.{cons_option}
 use Rattle.std.specs.Option.{is_some, option_map, option_and_then}
 use Rattle.std.proofs.lemmas.List.Elements.{filter_map-append}
+use Rattle.std.proofs.lemmas.Option.{same_Some}
 use Rattle.std.proofs.Math.ListN.{length-set}
 use native.Mathlib.Numerals.{unary_clauses}
 use Rattle.ccr_base.specs.declared.names.Place.{Place}
@@ -11,6 +12,7 @@ use Rattle.ccr_wiring.specs.declared.parts.Parts.{Parts}
 use Rattle.ccr_wiring.specs.Valid.{IsValid}
 use Rattle.ccr_wiring.proofs.Soundness.{sound}
 use Rattle.ccr_base.proofs.Booleans.{eq-self, same_number}
+use Rattle.ccr_base.proofs.Options.{get-push}
 use Rattle.ccr_places.specs.declared.notes.Note.{Note}
 use Rattle.ccr_claim.specs.declared.asks.Ask.{Ask}
 use Rattle.ccr_claim.specs.declared.asks.Asked.{Asked}
@@ -70,15 +72,12 @@ matches_after w workers lacks facts past v l (act ∷ acts) m run =
 pub entries-push : (w : Parts) (acts : List (Act Deed)) (act : Act Deed) (entry : Entry) → entry_of w act ≡ Some entry → entries_of w (acts ++ act ∷ []) ≡ entries_of w acts ++ entry ∷ []
 entries-push w acts act entry is = filter_map-append (entry_of w) acts (act ∷ []) ∙ ap (λ o. entries_of w acts ++ cons_option o []) is
 
-same_entry : (x y : Entry) → Some x ≡ Some y → x ≡ y
-same_entry x y e = cc
-
 by_actor : (w : Parts) (act : Act Deed) (entry : Entry) → entry_of w act ≡ Some entry → entry.actor ≡ act.seat
 by_actor w act entry = by act.note.note
   where
     by : (o : Option Note) → option_map (λ (note : Note). record { actor = act.seat; place = place_at w act.place; stamp = act.stamp; note = note }) o ≡ Some entry → entry.actor ≡ act.seat
     by None is = absurd (cc)
-    by (Some note) is = ap (λ (e : Entry). e.actor) (sym (same_entry _ entry is))
+    by (Some note) is = ap (λ (e : Entry). e.actor) (sym (same_Some _ entry is))
 
 -- ---- the next ask of an actor of a played run
 
@@ -108,7 +107,7 @@ module _ (w : Parts) (workers : ℕ) (lacks : Lacks) (valid : IsValid w) (few : 
     -- what the actor was replied then
     pub heard_own : (entry : Entry) (reply : Reply) → entry_of w (act_after w acts k one.place one.ask) ≡ Some entry → reply_of (scene_after w acts (number_at w one.place)).0 one.ask ≡ Replied reply → replies_of w (entries_of w acts ++ entry ∷ []) k ≡ replies_of w (entries_of w acts) k ++ reply ∷ []
     heard_own entry reply is replied =
-        ap (λ e. replies_of w (entries_of w acts ++ e ∷ []) k) (same_entry entry adds_so.entry (sym is ∙ adds_so.is_entry))
+        ap (λ e. replies_of w (entries_of w acts ++ e ∷ []) k) (same_Some entry adds_so.entry (sym is ∙ adds_so.is_entry))
         ∙ sym (ap (λ s. s.0.given) (adds_so.matches.actors k))
         ∙ ap (λ b. (cond b (heard (cast_from w lacks (scene w) (cast (protocol w lacks)) acts k).0 (reply_of (scene_after w acts (number_at w one.place)).0 one.ask), act.stamp) (cast_from w lacks (scene w) (cast (protocol w lacks)) acts k)).0.given) (eq-self k)
         ∙ ap (λ a. (heard (cast_from w lacks (scene w) (cast (protocol w lacks)) acts k).0 a).given) replied
@@ -117,7 +116,7 @@ module _ (w : Parts) (workers : ℕ) (lacks : Lacks) (valid : IsValid w) (few : 
     -- and the others as before
     pub heard_other : (entry : Entry) → entry_of w (act_after w acts k one.place one.ask) ≡ Some entry → (j : ℕ) → (k == j) ≡ false → replies_of w (entries_of w acts ++ entry ∷ []) j ≡ replies_of w (entries_of w acts) j
     heard_other entry is j other =
-        ap (λ e. replies_of w (entries_of w acts ++ e ∷ []) j) (same_entry entry adds_so.entry (sym is ∙ adds_so.is_entry))
+        ap (λ e. replies_of w (entries_of w acts ++ e ∷ []) j) (same_Some entry adds_so.entry (sym is ∙ adds_so.is_entry))
         ∙ sym (ap (λ s. s.0.given) (adds_so.matches.actors j))
         ∙ ap (λ b. (cond b (heard (cast_from w lacks (scene w) (cast (protocol w lacks)) acts j).0 (reply_of (scene_after w acts (number_at w one.place)).0 one.ask), act.stamp) (cast_from w lacks (scene w) (cast (protocol w lacks)) acts j)).0.given) other
         ∙ ap (λ s. s.0.given) (match_so.actors j)
@@ -125,7 +124,7 @@ module _ (w : Parts) (workers : ℕ) (lacks : Lacks) (valid : IsValid w) (few : 
     -- the entry is the one that the actor makes
     pub made_so : (entry : Entry) → entry_of w (act_after w acts k one.place one.ask) ≡ Some entry → made_by w lacks (entries_of w acts) k ≡ Some entry
     made_so entry is =
-        let same = same_entry entry adds_so.entry (sym is ∙ adds_so.is_entry) in
+        let same = same_Some entry adds_so.entry (sym is ∙ adds_so.is_entry) in
         let made = run_last w workers lacks [] (entries_of w acts) adds_so.entry adds_so.matches.run in
         let own = by_actor w act adds_so.entry adds_so.is_entry in
         subst (λ e. made_by w lacks (entries_of w acts) k ≡ Some e) (sym same) (subst (λ a. made_by w lacks (entries_of w acts) a ≡ Some adds_so.entry) own made)
@@ -155,8 +154,8 @@ acting_started w lacks k none = record {
 }
 
 -- the actor in this state, as far as it counts, with no ask unanswered
-abbrev pub standing : Parts → ℕ → State → Acting
-standing w k state = record { wiring = w; actor = k; state = state; asking = quiet }
+abbrev pub acting_of : Parts → ℕ → State → Acting
+acting_of w k state = record { wiring = w; actor = k; state = state; asking = quiet }
 
 -- the state that the reply to its next ask leads to
 module _ (w : Parts) (k : ℕ) (lack : Option ℕ) (given : List Reply) (one : Asked) (reply : Reply) (asks : actors.next w k lack given ≡ Some one) where
@@ -172,7 +171,7 @@ module _ (w : Parts) (k : ℕ) (lack : Option ℕ) (given : List Reply) (one : A
   reply_stands : (short : Bool) → IsShortAfter lack given short → answered (sent (at_state w k (state_after w k lack given))) reply ≡ at_state w k (state_after w k lack (given ++ reply ∷ []))
   reply_stands short is =
       first_reply
-      ∙ ap (standing w k) (kept_after w k was reply)
+      ∙ ap (acting_of w k) (kept_after w k was reply)
       ∙ ap (at_state w k) (sym (more_replies lack short is))
     where
       more_replies : (l : Option ℕ) (short : Bool) → IsShortAfter l given short → state_after w k l (given ++ reply ∷ []) ≡ after w k (state_after w k l given) reply
@@ -225,35 +224,28 @@ got_other (z ∷ zs) zero y (suc j) other = refl
 got_other (z ∷ zs) (suc k) y zero other = refl
 got_other (z ∷ zs) (suc k) y (suc j) other = got_other zs k y j (λ e. other (ap suc e))
 
--- the elements with one more at the end
-got_push : {X : Type 0} (xs : List X) (y : X) (j : ℕ) (x : X) → slice_get (xs ++ y ∷ []) j ≡ Some x → (slice_get xs j ≡ Some x) ⊎ ((j ≡ length xs) × (x ≡ y))
-got_push [] y zero x is = inr (refl, cc)
-got_push [] y (suc j) x is = absurd (cc)
-got_push (z ∷ zs) y zero x is = inl is
-got_push (z ∷ zs) y (suc j) x is = elim (got_push zs y j x is) [ inl old ↦ inl old | inr new ↦ inr (ap suc new.0, new.1) ]
-
 pub started_push : (w : Parts) (n : ℕ) (team : List Acting) (a : Acting) → AreStarted w n team → a ≡ started w n → AreStarted w (n + 1) (team ++ a ∷ [])
-started_push w n team a so_far is = (omega (arith, so_far.0, length-append team (a ∷ [])), λ k x at. elim (got_push team a k x at) [ inl old ↦ so_far.1 k x old | inr new ↦ new.1 ∙ is ∙ ap (started w) (sym so_far.0 ∙ sym new.0) ])
+started_push w n team a so_far is = (omega (arith, so_far.0, length-append team (a ∷ [])), λ k x at. elim (get-push team a x k at) [ inl old ↦ so_far.1 k x old | inr new ↦ sym new.1 ∙ is ∙ ap (started w) (sym so_far.0 ∙ sym new.0) ])
 
 -- ---- one turn
 
-pub played_start : (workers : ℕ) (stage : PlainState) (team : List Acting) → IsValid stage.wiring → stage.acts ≡ [] → AreStarted stage.wiring (length stage.wiring.posters + workers) team → IsPlayed workers never stage team []
-played_start workers stage team valid none begun = record {
+pub played_start : (workers : ℕ) (state : PlainState) (team : List Acting) → IsValid state.wiring → state.acts ≡ [] → AreStarted state.wiring (length state.wiring.posters + workers) team → IsPlayed workers never state team []
+played_start workers state team valid none begun = record {
   valid = valid;
-  run = subst (λ acts. IsRunFrom (protocol stage.wiring never) (length stage.wiring.posters + workers) (scene stage.wiring) (cast (protocol stage.wiring never)) acts) (sym none) tt;
-  same = ap (entries_of stage.wiring) (sym none);
+  run = subst (λ acts. IsRunFrom (protocol state.wiring never) (length state.wiring.posters + workers) (scene state.wiring) (cast (protocol state.wiring never)) acts) (sym none) tt;
+  same = ap (entries_of state.wiring) (sym none);
   count = begun.0;
-  acting = λ k a at. subst (IsActing stage.wiring never [] k) (sym (begun.1 k a at)) (acting_started stage.wiring never k refl);
+  acting = λ k a at. subst (IsActing state.wiring never [] k) (sym (begun.1 k a at)) (acting_started state.wiring never k refl);
 }
 
-pub played_run : (workers : ℕ) (lacks : Lacks) (stage : PlainState) (team : List Acting) (entries : List Entry) → workers ≤ 16 → IsPlayed workers lacks stage team entries → IsRunAfter stage.wiring workers lacks [] entries
-played_run workers lacks stage team entries few played = subst (IsRunAfter stage.wiring workers lacks []) (sym played.same) (match_so stage.wiring workers lacks played.valid few stage.acts played.run).run
+pub played_run : (workers : ℕ) (lacks : Lacks) (state : PlainState) (team : List Acting) (entries : List Entry) → workers ≤ 16 → IsPlayed workers lacks state team entries → IsRunAfter state.wiring workers lacks [] entries
+played_run workers lacks state team entries few played = subst (IsRunAfter state.wiring workers lacks []) (sym played.same) (match_so state.wiring workers lacks played.valid few state.acts played.run).run
 
-module _ (workers : ℕ) (lacks : Lacks) (stage : PlainState) (team : List Acting) (entries : List Entry) (few : workers ≤ 16) (played : IsPlayed workers lacks stage team entries) (k : ℕ) (low : k < length team) (a : Acting) (there : slice_get team k ≡ Some a) where
+module _ (workers : ℕ) (lacks : Lacks) (state : PlainState) (team : List Acting) (entries : List Entry) (few : workers ≤ 16) (played : IsPlayed workers lacks state team entries) (k : ℕ) (low : k < length team) (a : Acting) (there : slice_get team k ≡ Some a) where
   abbrev w : Parts
-  w = stage.wiring
+  w = state.wiring
 
-  pub acting_so : IsActing stage.wiring lacks entries k a
+  pub acting_so : IsActing state.wiring lacks entries k a
   acting_so = played.acting k a there
 
   seat_so : k < length w.posters + workers
@@ -262,36 +254,36 @@ module _ (workers : ℕ) (lacks : Lacks) (stage : PlainState) (team : List Actin
   pub seat_few : a.actor < 32
   seat_few = let small = (sound w played.valid).small.posters in let number = acting_number w lacks entries k a acting_so in rw number (omega (arith, seat_so, small))
 
-  asks_next : (one : Asked) → next a ≡ Some one → actors.next w k (lacks k) (replies_of w (entries_of w stage.acts) k) ≡ Some one
+  asks_next : (one : Asked) → next a ≡ Some one → actors.next w k (lacks k) (replies_of w (entries_of w state.acts) k) ≡ Some one
   asks_next one asks = ap (λ es. actors.next w k (lacks k) (replies_of w es k)) (sym played.same) ∙ sym (next_same w lacks entries k a acting_so) ∙ asks
 
-  pub met_so : IsMet stage a
-  met_so one asks = (adds_so w workers lacks played.valid few stage.acts played.run k seat_so one (asks_next one asks)).met
+  pub met_so : IsMet state a
+  met_so one asks = (adds_so w workers lacks played.valid few state.acts played.run k seat_so one (asks_next one asks)).met
 
-  pub rest_made : next a ≡ None → entries ≡ with_made entries (made_by stage.wiring lacks entries k)
+  pub rest_made : next a ≡ None → entries ≡ with_made entries (made_by state.wiring lacks entries k)
   rest_made none = ap (λ o. with_made entries (option_and_then (entry_for w entries k) o)) (sym none ∙ next_same w lacks entries k a acting_so)
 
-  module _ (later : PlainState) (b : Acting) (more : List Entry) (step : IsStep stage a entries later b more) where
+  module _ (later : PlainState) (b : Acting) (more : List Entry) (step : IsStep state a entries later b more) where
     number : a.actor ≡ k
     number = acting_number w lacks entries k a acting_so
 
-    entry_so : entry_of w (act_after w stage.acts k step.one.place step.one.ask) ≡ Some step.made.entry
-    entry_so = ap (λ n. entry_of w (act_after w stage.acts n step.one.place step.one.ask)) (sym number) ∙ step.made.is_entry
+    entry_so : entry_of w (act_after w state.acts k step.one.place step.one.ask) ≡ Some step.made.entry
+    entry_so = ap (λ n. entry_of w (act_after w state.acts n step.one.place step.one.ask)) (sym number) ∙ step.made.is_entry
 
-    acts_so : later.acts ≡ stage.acts ++ act_after w stage.acts k step.one.place step.one.ask ∷ []
-    acts_so = step.made.acts ∙ ap (λ n. stage.acts ++ act_after w stage.acts n step.one.place step.one.ask ∷ []) number
+    acts_so : later.acts ≡ state.acts ++ act_after w state.acts k step.one.place step.one.ask ∷ []
+    acts_so = step.made.acts ∙ ap (λ n. state.acts ++ act_after w state.acts n step.one.place step.one.ask ∷ []) number
 
-    more_so : more ≡ entries_of w stage.acts ++ step.made.entry ∷ []
+    more_so : more ≡ entries_of w state.acts ++ step.made.entry ∷ []
     more_so = step.made.added ∙ ap (λ es. es ++ step.made.entry ∷ []) played.same
 
-    pub step_made : more ≡ with_made entries (made_by stage.wiring lacks entries k)
-    step_made = step.made.added ∙ ap (with_made entries) (sym (ap (λ es. made_by w lacks es k) played.same ∙ made_so w workers lacks played.valid few stage.acts played.run k seat_so step.one (asks_next step.one step.asks) step.made.entry entry_so))
+    pub step_made : more ≡ with_made entries (made_by state.wiring lacks entries k)
+    step_made = step.made.added ∙ ap (with_made entries) (sym (ap (λ es. made_by w lacks es k) played.same ∙ made_so w workers lacks played.valid few state.acts played.run k seat_so step.one (asks_next step.one step.asks) step.made.entry entry_so))
 
     own_heard : replies_of w more k ≡ replies_of w entries k ++ step.made.reply ∷ []
-    own_heard = ap (λ es. replies_of w es k) more_so ∙ heard_own w workers lacks played.valid few stage.acts played.run k seat_so step.one (asks_next step.one step.asks) step.made.entry step.made.reply entry_so step.made.replied ∙ ap (λ es. replies_of w es k ++ step.made.reply ∷ []) (sym played.same)
+    own_heard = ap (λ es. replies_of w es k) more_so ∙ heard_own w workers lacks played.valid few state.acts played.run k seat_so step.one (asks_next step.one step.asks) step.made.entry step.made.reply entry_so step.made.replied ∙ ap (λ es. replies_of w es k ++ step.made.reply ∷ []) (sym played.same)
 
     others_heard : (j : ℕ) → (k == j) ≡ false → replies_of w more j ≡ replies_of w entries j
-    others_heard j other = ap (λ es. replies_of w es j) more_so ∙ heard_other w workers lacks played.valid few stage.acts played.run k seat_so step.one (asks_next step.one step.asks) step.made.entry entry_so j other ∙ ap (λ es. replies_of w es j) (sym played.same)
+    others_heard j other = ap (λ es. replies_of w es j) more_so ∙ heard_other w workers lacks played.valid few state.acts played.run k seat_so step.one (asks_next step.one step.asks) step.made.entry entry_so j other ∙ ap (λ es. replies_of w es j) (sym played.same)
 
     each_acts : (j : ℕ) (x : Acting) → slice_get (slice_set team k b) j ≡ Some x → IsActing w lacks more j x
     each_acts j x at = by (k == j) refl
@@ -308,31 +300,31 @@ module _ (workers : ℕ) (lacks : Lacks) (stage : PlainState) (team : List Actin
         let P : Parts → Type 0 = λ x. IsPlayed workers lacks (record { wiring = x; acts = later.acts; room = later.room }) (slice_set team k b) more in
         subst P (sym step.made.wiring) (record {
           valid = played.valid;
-          run = subst (λ acts. IsRunFrom (protocol w lacks) (length w.posters + workers) (scene w) (cast (protocol w lacks)) acts) (sym acts_so) (run_so w workers lacks played.valid few stage.acts played.run k seat_so step.one (asks_next step.one step.asks));
-          same = more_so ∙ sym (entries-push w stage.acts (act_after w stage.acts k step.one.place step.one.ask) step.made.entry entry_so) ∙ ap (entries_of w) (sym acts_so);
+          run = subst (λ acts. IsRunFrom (protocol w lacks) (length w.posters + workers) (scene w) (cast (protocol w lacks)) acts) (sym acts_so) (run_so w workers lacks played.valid few state.acts played.run k seat_so step.one (asks_next step.one step.asks));
+          same = more_so ∙ sym (entries-push w state.acts (act_after w state.acts k step.one.place step.one.ask) step.made.entry entry_so) ∙ ap (entries_of w) (sym acts_so);
           count = length-set team k b ∙ played.count;
           acting = each_acts;
         })
 
-    pub wiring_so : later.wiring ≡ stage.wiring
+    pub wiring_so : later.wiring ≡ state.wiring
     wiring_so = step.made.wiring
 
 -- ---- what was asked
 
 -- a step, once what was asked is answered
-pub step_of : (stage later : PlainState) (a before b : Acting) (entries more : List Entry) (place : Place) (ask : Ask) → next a ≡ Some (record { place = place; ask = ask }) → before ≡ sent a → IsAnswered stage before entries place ask later b more → IsStep stage a entries later b more
-step_of stage later a before b entries more place ask asks sends made = record {
+pub step_of : (state later : PlainState) (a before b : Acting) (entries more : List Entry) (place : Place) (ask : Ask) → next a ≡ Some (record { place = place; ask = ask }) → before ≡ sent a → IsAnswered state before entries place ask later b more → IsStep state a entries later b more
+step_of state later a before b entries more place ask asks sends made = record {
   one = record { place = place; ask = ask };
   asks = asks;
-  made = subst (λ (x : Acting). IsAnswered stage x entries place ask later b more) sends made;
+  made = subst (λ (x : Acting). IsAnswered state x entries place ask later b more) sends made;
 }
 
 -- what is answered, where room was made before it
-pub answer_of : (stage mid later : PlainState) (a b : Acting) (entries old more : List Entry) (seat : ℕ) (place : Place) (ask : Ask) (entry : Entry) (reply : Reply)
-    → mid.wiring ≡ stage.wiring → mid.acts ≡ stage.acts → seat ≡ a.actor → old ≡ entries
+pub answer_of : (state mid later : PlainState) (a b : Acting) (entries old more : List Entry) (seat : ℕ) (place : Place) (ask : Ask) (entry : Entry) (reply : Reply)
+    → mid.wiring ≡ state.wiring → mid.acts ≡ state.acts → seat ≡ a.actor → old ≡ entries
     → later.wiring ≡ mid.wiring → later.acts ≡ mid.acts ++ act_after mid.wiring mid.acts seat place ask ∷ [] → entry_of mid.wiring (act_after mid.wiring mid.acts seat place ask) ≡ Some entry → more ≡ old ++ entry ∷ [] → reply_of (scene_after mid.wiring mid.acts (number_at mid.wiring place)).0 ask ≡ Replied reply
-    → IsAfter a (Ok reply) b → (a.state.is_short ≡ false → b.state.is_short ≡ false) → IsAnswered stage a entries place ask later b more
-answer_of stage mid later a b entries old more seat place ask entry reply wiring acts own kept stays done is_entry added replied heard long = record {
+    → IsAfter a (Ok reply) b → (a.state.is_short ≡ false → b.state.is_short ≡ false) → IsAnswered state a entries place ask later b more
+answer_of state mid later a b entries old more seat place ask entry reply wiring acts own kept stays done is_entry added replied heard long = record {
   wiring = stays ∙ wiring;
   acts = done ∙ (λ j. acts j ++ act_after (wiring j) (acts j) (own j) place ask ∷ []);
   entry = entry;

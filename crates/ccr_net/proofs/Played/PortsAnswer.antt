@@ -4,7 +4,7 @@ use Rattle.std.specs.Prelude.{◌==◌, if◌then◌else◌, nat_le, not}
 use Rattle.std.specs.Option.{option_map_or}
 use Rattle.ccr_base.specs.declared.names.Place.TheVariants as places
 use Rattle.ccr_base.specs.declared.patterns.Slot.{Slot}
-use Rattle.ccr_base.specs.Choice.{fitting, is_choosable}
+use Rattle.ccr_base.specs.Selection.{fitting, is_choosable}
 use Rattle.ccr_wiring.specs.declared.parts.Parts.{Parts}
 use Rattle.ccr_base.proofs.Booleans.{eq-self, both, same_number}
 use Rattle.ccr_places.specs.declared.claims.StandingClaim.{StandingClaim}

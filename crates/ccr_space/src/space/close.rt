@@ -3,7 +3,7 @@
 ghost use Rattle.std.specs.Prelude.{◌≡◌, ◌≤◌, ℕ, ◌<◌, ◌++◌, ◌∷◌, [], if◌then◌else◌, length, map, All, IfOk, OnOk, vec_capacity};
 ghost use Rattle.ccr_turns.specs.Locks.{IsSeatOf};
 ghost use Rattle.ccr_runs.specs.Visible.{visible as shown};
-ghost use Rattle.ccr_space.specs.Spaces.{HasPlaces, HasSeat, IsPassOf, IsSpace, actor_count, is_stopped_in, stopped_of};
+ghost use Rattle.ccr_space.specs.Spaces.{HasPlaces, HasSeat, IsPassOf, IsSpace, pass_count, is_stopped_in, stopped_of};
 ghost use Rattle.ccr_space.specs.Closes.{IsClosed, IsKeptOf};
 
 use super::{Pass, PassOf, Space, SpaceOf};
@@ -31,10 +31,10 @@ impl<'w> Space<'w> {
     pub fn close(self, alloc: Global, passes: List<Pass<'w>>) -> Result<Closed, OutOfMemory>
         requires space { IsSpace self }
         requires passes { All (λ pass. IsPassOf self pass) passes }
-        requires all { length passes ≡ actor_count self }
+        requires all { length passes ≡ pass_count self }
         ensures run { IfOk result (λ closed. IsClosed self.entry passes.entry closed.full.entries) }
         ensures history { IfOk result (λ closed. closed.history ≡ shown closed.full.entries) }
-        ensures short { IfOk result (λ closed. closed.short ≡ stopped_of passes.entry (actor_count self.entry)) }
+        ensures short { IfOk result (λ closed. closed.short ≡ stopped_of passes.entry (pass_count self.entry)) }
     {
         let wiring = self.wiring;
         let passes = passes.into_vec();
@@ -60,9 +60,9 @@ impl<'w> Space<'w> {
     ) -> Result<List<PlaceAndHistory>, OutOfMemory>
         requires space { HasPlaces self }
         requires seats { All (λ seat. IsSeatOf self.turns seat) seats }
-        requires all { length seats ≡ actor_count self }
+        requires all { length seats ≡ pass_count self }
         ensures locks { IfOk result (λ kept. IsKeptOf self.entry seats kept) }
-        ensures numbers { IfOk result (λ _. (actor : ℕ) → actor < actor_count self.entry → HasSeat seats actor) }
+        ensures numbers { IfOk result (λ _. (actor : ℕ) → actor < pass_count self.entry → HasSeat seats actor) }
     {
         let SpaceOf {
             turns,

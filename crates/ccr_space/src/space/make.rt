@@ -3,9 +3,9 @@
 ghost use Rattle.std.specs.Prelude.{◌≡◌, ◌≤◌, [], map, All, IfOk};
 ghost use Rattle.std.specs.List.{range_with_len};
 ghost use Rattle.ccr_base.specs.Bounds.{most_workers};
-ghost use Rattle.ccr_wiring.specs.Actors.{actor_count as count_of_actors};
+ghost use Rattle.ccr_wiring.specs.Actors.{actor_count};
 ghost use Rattle.ccr_turns.specs.Locks.{IsSeatOf, keep_of, number_of, log_of};
-ghost use Rattle.ccr_space.specs.Spaces.{HasPlaces, IsPassOf, IsSpace, actor_count, log, number, wiring_of};
+ghost use Rattle.ccr_space.specs.Spaces.{HasPlaces, IsPassOf, IsSpace, log, number, pass_count, wiring_of};
 
 use super::{Pass, PassOf, Space, SpaceOf};
 use ccr_actor::{Actor, actor_count};
@@ -25,12 +25,12 @@ impl<'w> Space<'w> {
         workers: u32,
     ) -> Result<(Space<'w>, List<Pass<'w>>), OutOfMemory>
         requires workers { workers ≤ most_workers }
-        requires actors { 1 ≤ count_of_actors wiring.now workers }
+        requires actors { 1 ≤ actor_count wiring.now workers }
         ensures space { IfOk result (λ made. IsSpace made.0) }
         ensures wiring { IfOk result (λ made. wiring_of made.0 ≡ wiring.now) }
-        ensures count { IfOk result (λ made. actor_count made.0 ≡ count_of_actors wiring.now workers) }
+        ensures count { IfOk result (λ made. pass_count made.0 ≡ actor_count wiring.now workers) }
         ensures passes { IfOk result (λ made. All (λ pass. IsPassOf made.0 pass) made.1) }
-        ensures numbers { IfOk result (λ made. map number made.1 ≡ range_with_len 0 (count_of_actors wiring.now workers)) }
+        ensures numbers { IfOk result (λ made. map number made.1 ≡ range_with_len 0 (actor_count wiring.now workers)) }
         ensures logs { IfOk result (λ made. All (λ pass. log pass ≡ []) made.1) }
     {
         Space::make_with(alloc, wiring, workers, Keep::Every)
@@ -44,13 +44,13 @@ impl<'w> Space<'w> {
         keep: Keep,
     ) -> Result<(Space<'w>, List<Pass<'w>>), OutOfMemory>
         requires workers { workers ≤ most_workers }
-        requires actors { 1 ≤ count_of_actors wiring.now workers }
+        requires actors { 1 ≤ actor_count wiring.now workers }
         ensures space { IfOk result (λ made. HasPlaces made.0) }
         ensures keep { IfOk result (λ made. keep_of made.0.turns ≡ keep) }
         ensures wiring { IfOk result (λ made. wiring_of made.0 ≡ wiring.now) }
-        ensures count { IfOk result (λ made. actor_count made.0 ≡ count_of_actors wiring.now workers) }
+        ensures count { IfOk result (λ made. pass_count made.0 ≡ actor_count wiring.now workers) }
         ensures passes { IfOk result (λ made. All (λ pass. IsPassOf made.0 pass) made.1) }
-        ensures numbers { IfOk result (λ made. map number made.1 ≡ range_with_len 0 (count_of_actors wiring.now workers)) }
+        ensures numbers { IfOk result (λ made. map number made.1 ≡ range_with_len 0 (actor_count wiring.now workers)) }
         ensures logs { IfOk result (λ made. All (λ pass. log pass ≡ []) made.1) }
     {
         let directory = Directory::of(alloc, wiring)?;

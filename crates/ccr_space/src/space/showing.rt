@@ -1,7 +1,7 @@
-//! Closing the space for the history alone: each entry is dealt out in its turn, and what shows nothing is left out.
+//! Closing the space for the history alone: each act is dealt out in its turn, and what shows nothing is left out.
 
 ghost use Rattle.std.specs.Prelude.{◌≡◌, ◌++◌, length, All, IfOk, OnOk, option_to_list};
-ghost use Rattle.ccr_space.specs.Spaces.{HasPlaces, IsPassOf, actor_count, stopped_of};
+ghost use Rattle.ccr_space.specs.Spaces.{HasPlaces, IsPassOf, pass_count, stopped_of};
 ghost use Rattle.ccr_space.specs.Closes.{IsShownOf};
 ghost use Rattle.ccr_space.specs.Shows.{act_shown, acts_shown, note_shown};
 
@@ -25,17 +25,17 @@ impl<'w> Space<'w> {
     pub fn show(self, alloc: Global, passes: List<Pass<'w>>) -> Result<Shown, OutOfMemory>
         requires space { HasPlaces self }
         requires passes { All (λ pass. IsPassOf self pass) passes }
-        requires all { length passes ≡ actor_count self }
+        requires all { length passes ≡ pass_count self }
         ensures run { IfOk result (λ seen. IsShownOf self.entry passes.entry seen.history) }
-        ensures short { IfOk result (λ seen. seen.short ≡ stopped_of passes.entry (actor_count self.entry)) }
+        ensures short { IfOk result (λ seen. seen.short ≡ stopped_of passes.entry (pass_count self.entry)) }
     {
         let passes = passes.into_vec();
         let short = short_of(alloc, passes.as_slice(), passes.len() as u32)?;
         let seats = Vec::with_capacity(alloc, passes.len())?;
         let seats = seats_of(passes, seats);
         let kept = self.unlock(alloc, List::from_vec(seats))?;
-        let entries = Deal::of(alloc, kept)?;
-        let history = history_of(alloc, entries)?;
+        let acts = Deal::of(alloc, kept)?;
+        let history = history_of(alloc, acts)?;
         Ok(Shown { history, short })
     }
 }
@@ -49,19 +49,19 @@ fn event_in(actor: ActorNo, deed: Deed) -> Option<Event>
     event_of(actor, note)
 }
 
-/// What the entries show, one after the other.
-fn history_of(alloc: Global, entries: Deal<Deed>) -> Result<History, OutOfMemory>
-    ensures { IfOk result (λ history. history ≡ acts_shown entries) }
+/// What the acts show, one after the other.
+fn history_of(alloc: Global, acts: Deal<Deed>) -> Result<History, OutOfMemory>
+    ensures { IfOk result (λ history. history ≡ acts_shown acts) }
 {
     let mut history = History::new(alloc);
-    let mut left = entries;
-    'entries: while let Some(act) = left.next() {
+    let mut left = acts;
+    'acts: while let Some(act) = left.next() {
         add(&mut history, act)?;
     }
     Ok(history)
 }
 
-/// Adds what the entry shows.
+/// Adds what the act shows.
 fn add(history: &mut History, act: Act<Deed>) -> Result<(), OutOfMemory>
     ensures { OnOk result (history.new ≡ history.old ++ act_shown act) }
 {

@@ -6,13 +6,14 @@ use Rattle.std.specs.Str.{bytes_eq}
 use Rattle.std.proofs.lemmas.Bool.Decides.{nat_tests}
 use Rattle.std.proofs.lemmas.List.{flat_map_more}
 use Rattle.ccr_base.proofs.Texts.{same_word}
+use Rattle.ccr_text.proofs.Digits.{AreReadAgain}
 use Rattle.ccr_wiring.specs.declared.parts.Parts.{Parts}
 use Rattle.ccr_wiring.specs.declared.parts.BranchPart.{BranchPart}
 use Rattle.ccr_wiring.specs.declared.parts.ArbiterPart.{ArbiterPart}
 use Rattle.ccr_wiring.specs.declared.parts.Kind.{Kind}
 use Rattle.ccr_wiring.specs.declared.parts.Kind.TheVariants as arbiters
 use Rattle.ccr_wiring.specs.Groups.{is_receive, is_one_named}
-use Rattle.ccr_wiring.specs.Spots.{branch_named, branches_named, arbiters_named}
+use Rattle.ccr_wiring.specs.Spots.{branch_named, arbiters_named}
 use Rattle.ccr_wiretext.specs.declared.named.Named.TheVariants as kinds
 use Rattle.ccr_wiretext.specs.Names.{Naming}
 use Rattle.ccr_wiretext.specs.Drafts.{Declared, branch_count, receiver, with_receive}
@@ -21,11 +22,10 @@ use Rattle.ccr_wiretext.specs.Values.{IsPatternValued, IsArbiterValued}
 use Rattle.ccr_wiretext.proofs.Each.{both}
 use Rattle.ccr_base.specs.Lists.{Each}
 use Rattle.ccr_wiretext.proofs.Fit.{Shaped, ArbiterFit}
-use Rattle.ccr_wiretext.proofs.SpotCounts.{Uncrowded}
+use Rattle.ccr_wiretext.proofs.SpotCounts.{Uncrowded, arbiter_named}
 use Rattle.ccr_wiretext.proofs.Round.Leads.{outside, Leads, leads_to, leads_from, walk, room_before, room_for, each_at, all_at}
 use Rattle.ccr_base.proofs.Lists.{each_all}
 use Rattle.ccr_wiretext.proofs.Round.Namings.{Good, names_of, names_append, good_front, is_new}
-use Rattle.ccr_wiretext.proofs.Round.Terms.{Again}
 use Rattle.ccr_wiretext.proofs.Round.Shapes.{KnowsAll}
 use Rattle.ccr_wiretext.proofs.Round.Firing.{branch_entries, arbiter_entries, next_fine, knows_more, choice_open, interleave_open, block_leads, receive_step}
 
@@ -50,10 +50,6 @@ firing_more front done part =
     append_assoc front (firing_entries 0 done) (arbiter_entries (length done) part)
     ∙ ap (λ (v : Naming). front ++ v) (ap (λ (v : Naming). firing_entries 0 done ++ v) (sym (append-nil (arbiter_entries (length done) part))) ∙ sym (firing_behind done (part ∷ [])))
 
--- the ports that an arbiter's spots name
-abbrev arbiter_named : Parts → ArbiterPart → List ℕ
-arbiter_named parts part = branches_named parts part.branches
-
 -- an arbiter more
 abbrev after : Parts → Naming → List ℕ → ArbiterPart → Declared
 after parts names spotted part = outside (record parts { arbiters = parts.arbiters ++ part ∷ [] }) (names ++ arbiter_entries (length parts.arbiters) part) (spotted ++ arbiter_named parts part)
@@ -72,7 +68,7 @@ abbrev as_receive : List ℕ → List BranchPart → ArbiterPart
 as_receive name branches = record { name = name; kind = arbiters.Receive; branches = branches }
 
 -- a receive has one branch of its name
-receive_leads : Again → (whole parts : Parts) (names : Naming) (spotted : List ℕ) (name : List ℕ) (branches : List BranchPart) → is_one_named name branches ≡ true → IsReady whole parts names spotted (as_receive name branches)
+receive_leads : AreReadAgain → (whole parts : Parts) (names : Naming) (spotted : List ℕ) (name : List ℕ) (branches : List BranchPart) → is_one_named name branches ≡ true → IsReady whole parts names spotted (as_receive name branches)
     → Leads (outside parts names spotted) (map (branch_words whole) branches) (after parts names spotted (as_receive name branches))
 receive_leads again whole parts names spotted name [] one ready = absurd cc
 receive_leads again whole parts names spotted name (branch ∷ other ∷ others) one ready =
@@ -102,7 +98,7 @@ receive_one : (part : ArbiterPart) → is_receive part.kind ≡ true → Shaped 
 receive_one part receive (inl (kind, one)) = one
 receive_one part receive (inr (kind, some)) = absurd (let h : true ≡ false = sym receive ∙ kind in cc)
 
-arbiter_leads : Again → (whole parts : Parts) (names : Naming) (spotted : List ℕ) (name : List ℕ) (kind : Kind) (branches : List BranchPart) → IsReady whole parts names spotted (record { name = name; kind = kind; branches = branches })
+arbiter_leads : AreReadAgain → (whole parts : Parts) (names : Naming) (spotted : List ℕ) (name : List ℕ) (kind : Kind) (branches : List BranchPart) → IsReady whole parts names spotted (record { name = name; kind = kind; branches = branches })
     → Leads (outside parts names spotted) (arbiter_lines whole (record { name = name; kind = kind; branches = branches })) (after parts names spotted (record { name = name; kind = kind; branches = branches }))
 arbiter_leads again whole parts names spotted name arbiters.Receive branches ready =
     receive_leads again whole parts names spotted name branches (receive_one (as_receive name branches) refl ready.fit.1) ready
@@ -125,7 +121,7 @@ next_good front done part rest all e good =
     ∙ sym (append_assoc front (firing_entries 0 done) (arbiter_entries (length done) part ++ behind)) ∙ sym (append_assoc (front ++ firing_entries 0 done) (arbiter_entries (length done) part) behind) in
     good_front (names_of here) (names_of behind) (subst Good (names_append here behind) (subst (λ (v : Naming). Good (names_of v)) split good))
 
-pub arbiters_lead : Again → (whole parts : Parts) (front : Naming) (all : List ArbiterPart) → KnowsAll whole front → Each (ArbiterFit (length whole.queues) (length whole.handlers) (length whole.ports)) all → All IsArbiterValued all
+pub arbiters_lead : AreReadAgain → (whole parts : Parts) (front : Naming) (all : List ArbiterPart) → KnowsAll whole front → Each (ArbiterFit (length whole.queues) (length whole.handlers) (length whole.ports)) all → All IsArbiterValued all
     → Good (names_of (front ++ firing_entries 0 all)) → Uncrowded ([] ++ arbiters_named parts all) → length all ≤ 256 → sum (map (λ (arbiter : ArbiterPart). length arbiter.branches) all) ≤ 256
     → Leads (outside (record parts { arbiters = [] }) front []) (flat_map (arbiter_lines whole) all) (outside (record parts { arbiters = all }) (front ++ firing_entries 0 all) ([] ++ arbiters_named parts all))
 arbiters_lead again whole parts front all knows fit valued good fine room branch_room =

@@ -4,6 +4,7 @@ use Rattle.std.specs.Prelude.{◌==◌, not, codes}
 use Rattle.std.specs.List.{slice_get}
 use Rattle.std.specs.Option.{option_map_or}
 use Rattle.std.proofs.lemmas.List.Concat.{flat_map-append}
+use Rattle.std.proofs.lemmas.Option.{slice_get-map}
 use Rattle.ccr_base.proofs.Booleans.{not_true, not_refuted}
 use Rattle.ccr_text.specs.Spelling.{AreWords}
 use Rattle.ccr_wiring.specs.declared.parts.Parts.{Parts}
@@ -14,6 +15,7 @@ use Rattle.ccr_wiring.specs.declared.parts.Kind.{Kind}
 use Rattle.ccr_wiring.specs.declared.parts.Kind.TheVariants as arbiters
 use Rattle.ccr_wiring.specs.Groups.{is_interleave}
 use Rattle.ccr_wiring.specs.Repeats.{members_in_all}
+use Rattle.ccr_wiring.specs.PartNames.{arbiter_name}
 use Rattle.ccr_wiretext.specs.declared.keyword.Keyword.TheVariants as keywords
 use Rattle.ccr_wiretext.specs.declared.named.Named.TheVariants as kinds
 use Rattle.ccr_wiretext.specs.Keywords.{keyword}
@@ -21,7 +23,7 @@ use Rattle.ccr_wiretext.specs.Names.{Naming, as_arbiter}
 use Rattle.ccr_wiretext.specs.Drafts.{Declared, with_domain}
 use Rattle.ccr_wiretext.specs.Patterns.{is_combined}
 use Rattle.ccr_wiretext.specs.Grammar.{AreInterleaves}
-use Rattle.ccr_wiretext.specs.Spelling.{arbiter_name, combine_words}
+use Rattle.ccr_wiretext.specs.Spelling.{combine_words}
 use Rattle.ccr_wiretext.proofs.Each.{both}
 use Rattle.ccr_base.specs.Lists.{Each, has_number, are_apart}
 use Rattle.ccr_wiretext.proofs.Fit.{InterleaveFit, DomainFit}
@@ -76,7 +78,8 @@ pub interleaves_known : (parts : Parts) (front : Naming) → Good (names_of (fro
 interleaves_known parts front good n fit =
     let found = interleave_at (slice_get parts.arbiters n) fit in
     let counted : 0 + n ≡ n = omega arith in
-    rw found.1 (subst (λ m. IsKnown as_arbiter (front ++ firing_entries 0 parts.arbiters) found.0.name m) counted (interleave_known front 0 parts.arbiters n found.0 found.1 found.2 good))
+    rw (slice_get-map (λ (part : ArbiterPart). part.name) parts.arbiters n)
+    (rw found.1 (subst (λ m. IsKnown as_arbiter (front ++ firing_entries 0 parts.arbiters) found.0.name m) counted (interleave_known front 0 parts.arbiters n found.0 found.1 found.2 good)))
 
 -- ---- lists of Interleaves
 

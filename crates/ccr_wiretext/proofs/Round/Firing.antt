@@ -9,6 +9,7 @@ use Rattle.ccr_base.specs.declared.policies.Group.TheVariants as groups
 use Rattle.ccr_text.specs.Spelling.{AreWords}
 use Rattle.ccr_text.specs.Fields.{Words}
 use Rattle.ccr_text.specs.Words.{is_comment}
+use Rattle.ccr_text.proofs.Digits.{AreReadAgain}
 use Rattle.ccr_wiring.specs.declared.parts.Parts.{Parts}
 use Rattle.ccr_wiring.specs.declared.parts.BranchPart.{BranchPart}
 use Rattle.ccr_wiring.specs.declared.parts.ArbiterPart.{ArbiterPart}
@@ -33,7 +34,7 @@ use Rattle.ccr_wiretext.proofs.SpotCounts.{Uncrowded}
 use Rattle.ccr_wiring.proofs.Crowds.{times_append}
 use Rattle.ccr_wiretext.proofs.Round.Leads.{inside, outside, IsStep, step_to, Leads, leads_on, leads_to, walk_lines, room_before, each_at, all_at}
 use Rattle.ccr_wiretext.proofs.Round.Namings.{Good, entries, names_of, next_names, next_new}
-use Rattle.ccr_wiretext.proofs.Round.Terms.{Again, IsWord, word_more, name_word}
+use Rattle.ccr_wiretext.proofs.Round.Terms.{IsWord, word_more, name_word}
 use Rattle.ccr_wiretext.proofs.Round.Known.{queues_stay, handlers_stay, ports_stay}
 use Rattle.ccr_wiretext.proofs.Round.Shapes.{KnowsAll, tail_words, tail_says, tail_clean}
 
@@ -99,7 +100,7 @@ begun arbiters.Interleave groups.Concurrent block may = record { text = codes "c
 
 -- ---- a branch of a block
 
-branch_step : Again → (whole parts : Parts) (names : Naming) (spotted : List ℕ) (part : ArbiterPart) (branch : BranchPart) → KnowsAll whole names → IsNew names branch.name
+branch_step : AreReadAgain → (whole parts : Parts) (names : Naming) (spotted : List ℕ) (part : ArbiterPart) (branch : BranchPart) → KnowsAll whole names → IsNew names branch.name
     → BranchFit (length whole.queues) (length whole.handlers) (length whole.ports) branch → is_receive part.kind ≡ false → may_have part.kind branch.group ≡ true → IsPatternValued branch.pattern
     → Uncrowded (spotted ++ branch_named parts branch) → branch_count parts + length part.branches < 256
     → IsStep (inside parts names spotted (blocks.Arbiter part)) (branch_words whole branch) (with_branch (outside parts names spotted) part branch)
@@ -135,7 +136,7 @@ BranchRight whole kind branch = BranchFit (length whole.queues) (length whole.ha
 abbrev BranchValued : BranchPart → Type 0
 BranchValued branch = IsPatternValued branch.pattern
 
-branches_lead : Again → (whole parts : Parts) (front : Naming) (spotted : List ℕ) (name : List ℕ) (kind : Kind) (branches : List BranchPart) → KnowsAll whole front → Good (names_of (front ++ branch_entries branches))
+branches_lead : AreReadAgain → (whole parts : Parts) (front : Naming) (spotted : List ℕ) (name : List ℕ) (kind : Kind) (branches : List BranchPart) → KnowsAll whole front → Good (names_of (front ++ branch_entries branches))
     → Each (BranchRight whole kind) branches → is_receive kind ≡ false → All BranchValued branches → Uncrowded (spotted ++ branches_named parts branches) → branch_count parts + length branches ≤ 256
     → Leads (inside parts (front ++ []) (spotted ++ []) (blocks.Arbiter (opened name kind []))) (map (branch_words whole) branches)
     (inside parts (front ++ branch_entries branches) (spotted ++ branches_named parts branches) (blocks.Arbiter (opened name kind branches)))
@@ -201,7 +202,7 @@ interleave_open parts names spotted name new room = record {
 }
 
 -- a block whose first line opens it
-pub block_leads : Again → (whole parts : Parts) (names : Naming) (spotted : List ℕ) (first : List ℕ) (part : ArbiterPart) → KnowsAll whole names
+pub block_leads : AreReadAgain → (whole parts : Parts) (names : Naming) (spotted : List ℕ) (first : List ℕ) (part : ArbiterPart) → KnowsAll whole names
     → IsStep (outside parts names spotted) (first ∷ part.name ∷ []) (with_arbiter (outside parts names spotted) part.kind part.name)
     → Good (names_of (names ++ ((part.name, kinds.Arbiter (length parts.arbiters)) ∷ [] ++ branch_entries part.branches))) → ArbiterFit (length whole.queues) (length whole.handlers) (length whole.ports) part → is_receive part.kind ≡ false → IsArbiterValued part
     → Uncrowded (spotted ++ branches_named parts part.branches) → branch_count parts + length part.branches ≤ 256 → (length part.branches == 0) ≡ false
@@ -245,7 +246,7 @@ receive_keyed : keyword (codes "receive") ≡ keywords.Receive
 unfolding keyword
 receive_keyed = refl
 
-pub receive_step : Again → (whole parts : Parts) (names : Naming) (spotted : List ℕ) (branch : BranchPart) → KnowsAll whole names → IsNew names branch.name
+pub receive_step : AreReadAgain → (whole parts : Parts) (names : Naming) (spotted : List ℕ) (branch : BranchPart) → KnowsAll whole names → IsNew names branch.name
     → BranchFit (length whole.queues) (length whole.handlers) (length whole.ports) branch → may_have arbiters.Receive branch.group ≡ true → IsPatternValued branch.pattern
     → Uncrowded (spotted ++ branch_named parts branch) → length parts.arbiters < 256 → branch_count parts < 256
     → IsStep (outside parts names spotted) (branch_words whole branch) (with_receive (outside parts names spotted) branch)

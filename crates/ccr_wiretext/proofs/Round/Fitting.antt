@@ -2,7 +2,7 @@
 use Rattle.std.proofs.Common.{◌≡◌, ℕ, ◌<◌, ◌≤◌, Bool, true, false, List, length, refl, arith}
 use Rattle.std.specs.Prelude.{◌==◌, ◌&&◌, ◌||◌, not, nat_lt}
 use Rattle.std.specs.List.{list_any}
-use Rattle.std.proofs.lemmas.Bool.{ltb-false as within}
+use Rattle.std.proofs.lemmas.Bool.{ltb-false as at_most}
 use Rattle.ccr_base.proofs.Booleans.{not_refuted}
 use Rattle.ccr_base.specs.Lists.{are_apart}
 use Rattle.ccr_wiring.specs.declared.parts.Parts.{Parts}
@@ -12,16 +12,17 @@ use Rattle.ccr_wiring.specs.Groups.{is_misgrouped, is_branchless}
 use Rattle.ccr_wiring.specs.Names.{declared_names}
 use Rattle.ccr_wiring.specs.References.{set_is_dangling, cause_is_dangling, handler_is_dangling, arbiter_is_dangling, poster_is_dangling, has_dangling_set, has_dangling_cause, has_dangling_handler, has_dangling_arbiter, has_dangling_poster, domain_is_dangling, has_dangling_domain}
 use Rattle.ccr_wiring.specs.Repeats.{arbiter_repeats, set_repeats, poster_repeats, has_repeating_set, has_repeating_arbiter, has_repeating_poster, members_in_all, has_repeating_domain}
-use Rattle.ccr_wiring.specs.Limits.{policy_is_outside, set_is_outside, handler_is_outside, arbiter_is_outside, has_branches_above, has_posts_above, has_too_many, has_outside_queue, has_outside_set, has_outside_handler, has_outside_arbiter, domain_is_outside, has_outside_domain}
+use Rattle.ccr_wiring.specs.Limits.{policy_is_outside, set_is_outside, handler_is_outside, arbiter_is_outside, has_branches_above, has_posts_above, domain_is_outside}
 use Rattle.ccr_wiring.specs.Versions.{handler_is_newer, poster_is_newer}
 use Rattle.ccr_wiring.specs.Spots.{times, named_ports}
 use Rattle.ccr_wiring.proofs.Soundness.{below}
+use Rattle.ccr_wiring.proofs.Validity.{NoCodes, within}
 use Rattle.ccr_wiretext.proofs.Each.{neither}
 use Rattle.ccr_wiretext.proofs.Fit.{PolicyFit, OldFit, ArbiterFit, SetFit, HandlerFit, PosterFit, DomainFit}
 use Rattle.ccr_wiretext.proofs.SpotCounts.{Uncrowded, times_none, among}
 use Rattle.ccr_wiretext.proofs.Sound.{Counts, Fits}
 use Rattle.ccr_wiretext.proofs.Round.Namings.{Good}
-use Rattle.ccr_wiretext.proofs.Round.Validity.{each_if, none_of_two, policy_fits, set_fits, handler_fits, arbiter_fits, poster_fits, domain_fits, newer_in, old_each, NoCode}
+use Rattle.ccr_wiretext.proofs.Round.Validity.{each_if, none_of_two, policy_fits, set_fits, handler_fits, arbiter_fits, poster_fits, domain_fits, newer_in, old_each}
 
 -- the tests of which one is that numbers name something. The others are likewise
 record There (parts : Parts) : Type 0 where
@@ -32,9 +33,9 @@ record There (parts : Parts) : Type 0 where
   posters : has_dangling_poster parts ≡ false
   domains : has_dangling_domain parts ≡ false
 
-there : (parts : Parts) → NoCode parts → There parts
+there : (parts : Parts) → NoCodes parts → There parts
 there parts none =
-    let z = neither (has_dangling_set parts || has_dangling_cause parts || has_dangling_handler parts || has_dangling_arbiter parts || has_dangling_poster parts) (has_dangling_domain parts) none.there in
+    let z = neither (has_dangling_set parts || has_dangling_cause parts || has_dangling_handler parts || has_dangling_arbiter parts || has_dangling_poster parts) (has_dangling_domain parts) none.references in
     let a = neither (has_dangling_set parts || has_dangling_cause parts || has_dangling_handler parts || has_dangling_arbiter parts) (has_dangling_poster parts) z.0 in
     let b = neither (has_dangling_set parts || has_dangling_cause parts || has_dangling_handler parts) (has_dangling_arbiter parts) a.0 in
     let c = neither (has_dangling_set parts || has_dangling_cause parts) (has_dangling_handler parts) b.0 in
@@ -47,35 +48,16 @@ record Once (parts : Parts) : Type 0 where
   posters : has_repeating_poster parts ≡ false
   domains : has_repeating_domain parts ≡ false
 
-once : (parts : Parts) → NoCode parts → Once parts
+once : (parts : Parts) → NoCodes parts → Once parts
 once parts none =
-    let z = neither (has_repeating_set parts || has_repeating_arbiter parts || has_repeating_poster parts) (has_repeating_domain parts) none.once in
+    let z = neither (has_repeating_set parts || has_repeating_arbiter parts || has_repeating_poster parts) (has_repeating_domain parts) none.repeats in
     let a = neither (has_repeating_set parts || has_repeating_arbiter parts) (has_repeating_poster parts) z.0 in
     let b = neither (has_repeating_set parts) (has_repeating_arbiter parts) a.0 in
     record { sets = b.0; arbiters = b.1; posters = a.1; domains = z.1 }
 
-record Within (parts : Parts) : Type 0 where
-  budget : nat_lt 10000 parts.budget ≡ false
-  many : has_too_many parts ≡ false
-  queues : has_outside_queue parts ≡ false
-  sets : has_outside_set parts ≡ false
-  handlers : has_outside_handler parts ≡ false
-  arbiters : has_outside_arbiter parts ≡ false
-  domains : has_outside_domain parts ≡ false
-
-inside : (parts : Parts) → NoCode parts → Within parts
-inside parts none =
-    let z = neither (nat_lt 10000 parts.budget || has_too_many parts || has_outside_queue parts || has_outside_set parts || has_outside_handler parts || has_outside_arbiter parts) (has_outside_domain parts) none.inside in
-    let a = neither (nat_lt 10000 parts.budget || has_too_many parts || has_outside_queue parts || has_outside_set parts || has_outside_handler parts) (has_outside_arbiter parts) z.0 in
-    let b = neither (nat_lt 10000 parts.budget || has_too_many parts || has_outside_queue parts || has_outside_set parts) (has_outside_handler parts) a.0 in
-    let c = neither (nat_lt 10000 parts.budget || has_too_many parts || has_outside_queue parts) (has_outside_set parts) b.0 in
-    let d = neither (nat_lt 10000 parts.budget || has_too_many parts) (has_outside_queue parts) c.0 in
-    let e = neither (nat_lt 10000 parts.budget) (has_too_many parts) d.0 in
-    record { budget = e.0; many = e.1; queues = d.1; sets = c.1; handlers = b.1; arbiters = a.1; domains = z.1 }
-
-pub valid_counts : (parts : Parts) → NoCode parts → Counts parts
+pub valid_counts : (parts : Parts) → NoCodes parts → Counts parts
 valid_counts parts none =
-    let limits = inside parts none in
+    let limits = within parts none.limits in
     let queues : Bool = nat_lt 16 (length parts.queues) in
     let ports : Bool = nat_lt 256 (length parts.ports) in
     let sets : Bool = nat_lt 64 (length parts.sets) in
@@ -94,17 +76,17 @@ valid_counts parts none =
     let g = neither (queues || ports) sets f.0 in
     let h = neither queues ports g.0 in
     record {
-      budget = within 10000 parts.budget limits.budget;
-      queues = within 16 (length parts.queues) h.0;
-      ports = within 256 (length parts.ports) h.1;
-      sets = within 64 (length parts.sets) g.1;
-      causes = within 32 (length parts.causes) f.1;
-      handlers = within 256 (length parts.handlers) e.1;
-      arbiters = within 256 (length parts.arbiters) d.1;
-      branches = within 256 _ b.1;
-      posters = within 16 (length parts.posters) c.1;
-      posts = within 10000 _ a.1;
-      domains = within 128 (length parts.domains) (neither (nat_lt 128 (length parts.domains)) (list_any domain_is_outside parts.domains) limits.domains).0;
+      budget = at_most 10000 parts.budget limits.budget;
+      queues = at_most 16 (length parts.queues) h.0;
+      ports = at_most 256 (length parts.ports) h.1;
+      sets = at_most 64 (length parts.sets) g.1;
+      causes = at_most 32 (length parts.causes) f.1;
+      handlers = at_most 256 (length parts.handlers) e.1;
+      arbiters = at_most 256 (length parts.arbiters) d.1;
+      branches = at_most 256 _ b.1;
+      posters = at_most 16 (length parts.posters) c.1;
+      posts = at_most 10000 _ a.1;
+      domains = at_most 128 (length parts.domains) (neither (nat_lt 128 (length parts.domains)) (list_any domain_is_outside parts.domains) limits.domains).0;
     }
 
 -- what only version 2 has stands in no other
@@ -112,7 +94,7 @@ record Olds (parts : Parts) : Type 0 where
   handlers : OldFit parts.version (list_any handler_is_newer parts.handlers)
   posters : OldFit parts.version (list_any poster_is_newer parts.posters)
 
-olds : (parts : Parts) → NoCode parts → Olds parts
+olds : (parts : Parts) → NoCodes parts → Olds parts
 olds parts none =
     let parted = by (parts.version == 1) (parts.version == 2) (list_any handler_is_newer parts.handlers) (list_any poster_is_newer parts.posters) none.version none.newer in
     record { handlers = parted.0; posters = parted.1 }
@@ -122,11 +104,11 @@ olds parts none =
     by true false x y known new = neither x y new
     by false false x y known new = absurd cc
 
-pub valid_fits : (parts : Parts) → NoCode parts → Fits parts
+pub valid_fits : (parts : Parts) → NoCodes parts → Fits parts
 valid_fits parts none =
     let named = there parts none in
     let apart = once parts none in
-    let limits = inside parts none in
+    let limits = within parts none.limits in
     let old = olds parts none in
     record {
       queues = each_if (λ (part : QueuePart). PolicyFit part.policy) (λ (part : QueuePart). policy_is_outside part.policy) (λ part e. policy_fits part.policy e) parts.queues limits.queues;
@@ -156,7 +138,7 @@ valid_fits parts none =
           parts.arbiters
           (none_of_two (λ part. arbiter_is_dangling parts part || arbiter_repeats part) (λ part. arbiter_is_outside part || (is_misgrouped part || is_branchless part)) parts.arbiters
           (none_of_two (arbiter_is_dangling parts) arbiter_repeats parts.arbiters named.arbiters apart.arbiters)
-          (none_of_two arbiter_is_outside (λ part. is_misgrouped part || is_branchless part) parts.arbiters limits.arbiters (none_of_two is_misgrouped is_branchless parts.arbiters none.grouped none.branched)));
+          (none_of_two arbiter_is_outside (λ part. is_misgrouped part || is_branchless part) parts.arbiters limits.arbiters (none_of_two is_misgrouped is_branchless parts.arbiters none.groups none.branches)));
       posters = each_if (PosterFit parts.version (length parts.ports) (length parts.causes)) (λ part. poster_is_dangling parts part || (poster_repeats part || newer_in parts.version poster_is_newer part))
           (λ part e.
           let a = neither (poster_is_dangling parts part) (poster_repeats part || newer_in parts.version poster_is_newer part) e in
@@ -171,15 +153,15 @@ valid_fits parts none =
       combined = not_refuted (are_apart (members_in_all parts.domains)) apart.domains;
     }
 
-pub valid_names : (parts : Parts) → NoCode parts → Good (declared_names parts)
-valid_names parts none = record { apart = none.apart; formed = none.formed }
+pub valid_names : (parts : Parts) → NoCodes parts → Good (declared_names parts)
+valid_names parts none = record { apart = none.names; formed = none.forms }
 
-pub valid_fine : (parts : Parts) → NoCode parts → Uncrowded (named_ports parts)
+pub valid_fine : (parts : Parts) → NoCodes parts → Uncrowded (named_ports parts)
 valid_fine parts none port = by (list_any (λ other. other == port) ports) refl
   where
     ports : List ℕ
     ports = named_ports parts
 
     by : (t : Bool) → list_any (λ other. other == port) ports ≡ t → times port ports ≤ 16
-    by true is = within 16 (times port ports) (among (λ p. nat_lt 16 (times p ports)) port ports none.fine is)
+    by true is = at_most 16 (times port ports) (among (λ p. nat_lt 16 (times p ports)) port ports none.spots is)
     by false is = let nothing = times_none port ports is in omega arith

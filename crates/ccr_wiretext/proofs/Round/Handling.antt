@@ -3,8 +3,10 @@ use Rattle.std.proofs.Common.{ℕ, ◌<◌, ◌≤◌, List, [], ◌∷◌, ◌+
 use Rattle.std.specs.Prelude.{codes, flat_map}
 use Rattle.ccr_base.specs.declared.handlers.Action.{Action}
 use Rattle.ccr_base.specs.declared.handlers.Action.TheVariants as actions
+use Rattle.ccr_text.proofs.Digits.{AreReadAgain}
 use Rattle.ccr_wiring.specs.declared.parts.Parts.{Parts}
 use Rattle.ccr_wiring.specs.declared.parts.HandlerPart.{HandlerPart}
+use Rattle.ccr_wiring.specs.PartNames.{port_name, cause_name}
 use Rattle.ccr_wiretext.specs.declared.keyword.Keyword.TheVariants as keywords
 use Rattle.ccr_wiretext.specs.declared.named.Named.TheVariants as kinds
 use Rattle.ccr_wiretext.specs.declared.draft.Block.TheVariants as blocks
@@ -12,19 +14,19 @@ use Rattle.ccr_wiretext.specs.Keywords.{keyword}
 use Rattle.ccr_wiretext.specs.Names.{Naming}
 use Rattle.ccr_wiretext.specs.Drafts.{Declared, with_handler, with_action, end_handler}
 use Rattle.ccr_wiretext.specs.Grammar.{IsNew}
-use Rattle.ccr_wiretext.specs.Spelling.{port_name, cause_name, expr_words, action_words, end_words, handler_lines}
+use Rattle.ccr_wiretext.specs.Spelling.{expr_words, action_words, end_words, handler_lines}
 use Rattle.ccr_wiretext.specs.Values.{IsActionValued, IsHandlerValued}
 use Rattle.ccr_base.specs.Lists.{Each}
 use Rattle.ccr_wiretext.proofs.Fit.{ActionFit, HandlerFit}
 use Rattle.ccr_wiretext.proofs.Round.Leads.{inside, outside, IsStep, Leads, leads_on, leads_to, leads_from, walk, walk_lines, room_before, each_at, all_at}
 use Rattle.std.specs.List.{All}
 use Rattle.ccr_wiretext.proofs.Round.Namings.{Good, names_of, next_names, next_new}
-use Rattle.ccr_wiretext.proofs.Round.Terms.{Again, word_more, name_word, expr_says, expr_clean}
+use Rattle.ccr_wiretext.proofs.Round.Terms.{word_more, name_word, expr_says, expr_clean}
 use Rattle.ccr_wiretext.proofs.Round.Known.{handler_entries, KnowsPorts, KnowsCauses, ports_stay, causes_stay, port_says, port_word}
 
 -- ---- one action
 
-action_step : Again → (whole parts : Parts) (names : Naming) (part : HandlerPart) (action : Action) → KnowsPorts whole names → KnowsCauses whole names → ActionFit parts.version (length whole.ports) (length whole.causes) action → IsActionValued action
+action_step : AreReadAgain → (whole parts : Parts) (names : Naming) (part : HandlerPart) (action : Action) → KnowsPorts whole names → KnowsCauses whole names → ActionFit parts.version (length whole.ports) (length whole.causes) action → IsActionValued action
     → length part.handler.actions < 16 → IsStep (inside parts names [] (blocks.Handler part)) (action_words whole action) (with_action (outside parts names []) part action)
 unfolding keyword
 action_step again whole parts names part (actions.Post port value) ports causes fit valued room = record {
@@ -84,7 +86,7 @@ action_step again whole parts names part (actions.Await port) ports causes fit v
 abbrev begun : List ℕ → List Action → HandlerPart
 begun name done = record { name = name; handler = record { actions = done } }
 
-actions_lead : Again → (whole parts : Parts) (names : Naming) (name : List ℕ) (some : List Action) → KnowsPorts whole names → KnowsCauses whole names → Each (ActionFit parts.version (length whole.ports) (length whole.causes)) some → All IsActionValued some
+actions_lead : AreReadAgain → (whole parts : Parts) (names : Naming) (name : List ℕ) (some : List Action) → KnowsPorts whole names → KnowsCauses whole names → Each (ActionFit parts.version (length whole.ports) (length whole.causes)) some → All IsActionValued some
     → length some ≤ 16 → Leads (inside parts names [] (blocks.Handler (begun name []))) (map (action_words whole) some) (inside parts names [] (blocks.Handler (begun name some)))
 actions_lead again whole parts names name some ports causes fit valued room =
     walk_lines (action_words whole) (λ done. inside parts names [] (blocks.Handler (begun name done))) some
@@ -120,7 +122,7 @@ end_step parts names part = record {
   says = inl (refl, refl, refl);
 }
 
-handler_leads : Again → (whole parts : Parts) (names : Naming) (part : HandlerPart) → KnowsPorts whole names → KnowsCauses whole names → IsNew names part.name → HandlerFit parts.version (length whole.ports) (length whole.causes) part → IsHandlerValued part
+handler_leads : AreReadAgain → (whole parts : Parts) (names : Naming) (part : HandlerPart) → KnowsPorts whole names → KnowsCauses whole names → IsNew names part.name → HandlerFit parts.version (length whole.ports) (length whole.causes) part → IsHandlerValued part
     → length parts.handlers < 256
     → Leads (outside parts names []) (handler_lines whole part) (outside (record parts { handlers = parts.handlers ++ part ∷ [] }) (names ++ (part.name, kinds.Handler (length parts.handlers)) ∷ []) [])
 handler_leads again whole parts names part ports causes new fit valued room =
@@ -133,7 +135,7 @@ handler_leads again whole parts names part ports causes new fit valued room =
           (closed, end_step parts (names ++ entry) part, refl),
     )
 
-pub handlers_lead : Again → (whole parts : Parts) (front : Naming) (handlers : List HandlerPart) → KnowsPorts whole front → KnowsCauses whole front → Each (HandlerFit parts.version (length whole.ports) (length whole.causes)) handlers → All IsHandlerValued handlers
+pub handlers_lead : AreReadAgain → (whole parts : Parts) (front : Naming) (handlers : List HandlerPart) → KnowsPorts whole front → KnowsCauses whole front → Each (HandlerFit parts.version (length whole.ports) (length whole.causes)) handlers → All IsHandlerValued handlers
     → length handlers ≤ 256 → Good (names_of (front ++ handler_entries handlers))
     → Leads (outside (record parts { handlers = [] }) front []) (flat_map (handler_lines whole) handlers) (outside (record parts { handlers = handlers }) (front ++ handler_entries handlers) [])
 handlers_lead again whole parts front handlers ports causes fit valued room good =

@@ -3,6 +3,7 @@ use Rattle.std.proofs.Common.{◌≡◌, ℕ, ◌<◌, Bool, true, false, List, 
 use Rattle.std.specs.Prelude.{◌==◌, not}
 use Rattle.std.specs.List.{list_any}
 use Rattle.std.proofs.lemmas.Bool.Decides.{nat_tests}
+use Rattle.std.proofs.lemmas.Option.{slice_get-map}
 use Rattle.ccr_base.proofs.Booleans.{not_true}
 use Rattle.ccr_base.proofs.Options.{get-some}
 use Rattle.ccr_base.specs.Lists.{has_number, are_apart}
@@ -16,7 +17,7 @@ use Rattle.ccr_wiretext.specs.declared.named.Named.TheVariants as kinds
 use Rattle.ccr_wiretext.specs.Names.{Naming, as_port, as_queue, as_cause, as_handler}
 use Rattle.ccr_wiretext.specs.Drafts.{Declared}
 use Rattle.ccr_wiretext.specs.Grammar.{IsPort, ArePorts, AreCauses}
-use Rattle.ccr_wiretext.specs.Spelling.{port_name, queue_name, cause_name, handler_name}
+use Rattle.ccr_wiring.specs.PartNames.{port_name, queue_name, cause_name, handler_name}
 use Rattle.ccr_wiretext.proofs.Each.{both, neither}
 use Rattle.ccr_wiretext.proofs.Fit.{PortsFit}
 use Rattle.ccr_wiretext.proofs.Round.Namings.{Good, IsKnown, entries, names_of, known_get, known_more}
@@ -60,17 +61,17 @@ ports_known parts front good port less =
 pub queues_known : (parts : Parts) (front : Naming) → Good (names_of (front ++ queue_entries parts.queues)) → KnowsQueues parts (front ++ queue_entries parts.queues)
 queues_known parts front good queue less =
     let got = get-some parts.queues queue less in
-    rw got.1 (known_get as_queue (λ (part : QueuePart). part.name) kinds.Queue (λ n. refl) front parts.queues good queue got.0 got.1)
+    rw (slice_get-map (λ (part : QueuePart). part.name) parts.queues queue, got.1) (known_get as_queue (λ (part : QueuePart). part.name) kinds.Queue (λ n. refl) front parts.queues good queue got.0 got.1)
 
 pub causes_known : (parts : Parts) (front : Naming) → Good (names_of (front ++ cause_entries parts.causes)) → KnowsCauses parts (front ++ cause_entries parts.causes)
 causes_known parts front good cause less =
     let got = get-some parts.causes cause less in
-    rw got.1 (known_get as_cause (λ (part : CausePart). part.name) kinds.Cause (λ n. refl) front parts.causes good cause got.0 got.1)
+    rw (slice_get-map (λ (part : CausePart). part.name) parts.causes cause, got.1) (known_get as_cause (λ (part : CausePart). part.name) kinds.Cause (λ n. refl) front parts.causes good cause got.0 got.1)
 
 pub handlers_known : (parts : Parts) (front : Naming) → Good (names_of (front ++ handler_entries parts.handlers)) → KnowsHandlers parts (front ++ handler_entries parts.handlers)
 handlers_known parts front good handler less =
     let got = get-some parts.handlers handler less in
-    rw got.1 (known_get as_handler (λ (part : HandlerPart). part.name) kinds.Handler (λ n. refl) front parts.handlers good handler got.0 got.1)
+    rw (slice_get-map (λ (part : HandlerPart). part.name) parts.handlers handler, got.1) (known_get as_handler (λ (part : HandlerPart). part.name) kinds.Handler (λ n. refl) front parts.handlers good handler got.0 got.1)
 
 -- ---- they stay so
 

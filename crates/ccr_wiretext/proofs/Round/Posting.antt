@@ -7,6 +7,7 @@ use Rattle.ccr_text.specs.Fields.{Words}
 use Rattle.ccr_wiring.specs.declared.parts.Parts.{Parts}
 use Rattle.ccr_wiring.specs.declared.parts.PosterPart.{PosterPart}
 use Rattle.ccr_wiring.specs.Limits.{posts_in_all}
+use Rattle.ccr_wiring.specs.PartNames.{port_name, cause_name}
 use Rattle.ccr_wiretext.specs.declared.keyword.Keyword.TheVariants as keywords
 use Rattle.ccr_wiretext.specs.declared.named.Named.TheVariants as kinds
 use Rattle.ccr_wiretext.specs.declared.draft.Block.TheVariants as blocks
@@ -14,14 +15,15 @@ use Rattle.ccr_wiretext.specs.Keywords.{keyword}
 use Rattle.ccr_wiretext.specs.Names.{Naming}
 use Rattle.ccr_wiretext.specs.Drafts.{Declared, script_count, with_poster, with_post, end_poster}
 use Rattle.ccr_wiretext.specs.Grammar.{IsNew}
-use Rattle.ccr_wiretext.specs.Spelling.{port_name, cause_name, post_words, end_words, poster_lines}
+use Rattle.ccr_wiretext.specs.Spelling.{post_words, end_words, poster_lines}
 use Rattle.ccr_text.specs.Exact.{value_word}
+use Rattle.ccr_text.proofs.Digits.{AreReadAgain}
 use Rattle.ccr_wiretext.specs.Values.{IsValue, IsPosterValued}
 use Rattle.ccr_base.specs.Lists.{Each}
 use Rattle.ccr_wiretext.proofs.Fit.{PostFit, PosterFit}
 use Rattle.ccr_wiretext.proofs.Round.Leads.{inside, outside, IsStep, Leads, leads_on, leads_to, leads_from, walk, walk_lines, room_before, room_for, each_at, all_at}
 use Rattle.ccr_wiretext.proofs.Round.Namings.{Good, entries, names_of, next_names, next_new}
-use Rattle.ccr_wiretext.proofs.Round.Terms.{Again, word_more, name_word, value_clean, value_says}
+use Rattle.ccr_wiretext.proofs.Round.Terms.{word_more, name_word, value_clean, value_says}
 use Rattle.ccr_wiretext.proofs.Round.Known.{KnowsPorts, KnowsCauses, ports_stay, causes_stay, port_says, port_word, causes_say, causes_clean}
 
 abbrev pub poster_entries : List PosterPart → Naming
@@ -30,7 +32,7 @@ poster_entries parts = entries (λ (part : PosterPart). part.name) (λ n. kinds.
 abbrev PostValued : Sent → Type 0
 PostValued post = IsValue post.value
 
-post_step : Again → (whole parts : Parts) (names : Naming) (spotted : List ℕ) (part : PosterPart) (post : Sent) → KnowsPorts whole names → KnowsCauses whole names → PostFit parts.version (length whole.ports) (length whole.causes) post → PostValued post
+post_step : AreReadAgain → (whole parts : Parts) (names : Naming) (spotted : List ℕ) (part : PosterPart) (post : Sent) → KnowsPorts whole names → KnowsCauses whole names → PostFit parts.version (length whole.ports) (length whole.causes) post → PostValued post
     → script_count parts + length part.posts < 10000 → IsStep (inside parts names spotted (blocks.Poster part)) (post_words whole post) (with_post (outside parts names spotted) part post)
 unfolding keyword
 post_step again whole parts names spotted part post ports causes fit valued room =
@@ -65,7 +67,7 @@ post_step again whole parts names spotted part post ports causes fit valued room
 abbrev begun : List ℕ → List Sent → PosterPart
 begun name done = record { name = name; posts = done }
 
-posts_lead : Again → (whole parts : Parts) (names : Naming) (spotted : List ℕ) (name : List ℕ) (some : List Sent) → KnowsPorts whole names → KnowsCauses whole names → Each (PostFit parts.version (length whole.ports) (length whole.causes)) some → All PostValued some
+posts_lead : AreReadAgain → (whole parts : Parts) (names : Naming) (spotted : List ℕ) (name : List ℕ) (some : List Sent) → KnowsPorts whole names → KnowsCauses whole names → Each (PostFit parts.version (length whole.ports) (length whole.causes)) some → All PostValued some
     → script_count parts + length some ≤ 10000
     → Leads (inside parts names spotted (blocks.Poster (begun name []))) (map (post_words whole) some) (inside parts names spotted (blocks.Poster (begun name some)))
 posts_lead again whole parts names spotted name some ports causes fit valued room =
@@ -103,7 +105,7 @@ end_step parts names spotted part = record {
   says = (refl, refl);
 }
 
-poster_leads : Again → (whole parts : Parts) (names : Naming) (spotted : List ℕ) (part : PosterPart) → KnowsPorts whole names → KnowsCauses whole names → IsNew names part.name → PosterFit parts.version (length whole.ports) (length whole.causes) part → IsPosterValued part
+poster_leads : AreReadAgain → (whole parts : Parts) (names : Naming) (spotted : List ℕ) (part : PosterPart) → KnowsPorts whole names → KnowsCauses whole names → IsNew names part.name → PosterFit parts.version (length whole.ports) (length whole.causes) part → IsPosterValued part
     → length parts.posters < 16 → script_count parts + length part.posts ≤ 10000
     → Leads (outside parts names spotted) (poster_lines whole part) (outside (record parts { posters = parts.posters ++ part ∷ [] }) (names ++ (part.name, kinds.Poster) ∷ []) spotted)
 poster_leads again whole parts names spotted part ports causes new fit valued room post_room =
@@ -116,7 +118,7 @@ poster_leads again whole parts names spotted part ports causes new fit valued ro
           (closed, end_step parts (names ++ entry) spotted part, refl),
     )
 
-pub posters_lead : Again → (whole parts : Parts) (front : Naming) (spotted : List ℕ) (posters : List PosterPart) → KnowsPorts whole front → KnowsCauses whole front → Each (PosterFit parts.version (length whole.ports) (length whole.causes)) posters → All IsPosterValued posters
+pub posters_lead : AreReadAgain → (whole parts : Parts) (front : Naming) (spotted : List ℕ) (posters : List PosterPart) → KnowsPorts whole front → KnowsCauses whole front → Each (PosterFit parts.version (length whole.ports) (length whole.causes)) posters → All IsPosterValued posters
     → length posters ≤ 16 → posts_in_all posters ≤ 10000 → Good (names_of (front ++ poster_entries posters))
     → Leads (outside (record parts { posters = [] }) front spotted) (flat_map (poster_lines whole) posters) (outside (record parts { posters = posters }) (front ++ poster_entries posters) spotted)
 posters_lead again whole parts front spotted posters ports causes fit valued room post_room good =

@@ -1,27 +1,29 @@
 -- The canonical lines of the queues, ports, port sets and causes.
 use Rattle.std.proofs.Common.{ℕ, ◌<◌, ◌≤◌, List, [], ◌∷◌, ◌++◌, length, map, refl, ap, append-nil}
 use Rattle.std.specs.Prelude.{codes}
+use Rattle.ccr_text.proofs.Digits.{AreReadAgain}
 use Rattle.ccr_wiring.specs.declared.parts.Parts.{Parts}
 use Rattle.ccr_wiring.specs.declared.parts.QueuePart.{QueuePart}
 use Rattle.ccr_wiring.specs.declared.parts.SetPart.{SetPart}
 use Rattle.ccr_wiring.specs.declared.parts.CausePart.{CausePart}
+use Rattle.ccr_wiring.specs.PartNames.{port_name}
 use Rattle.ccr_wiretext.specs.declared.keyword.Keyword.TheVariants as keywords
 use Rattle.ccr_wiretext.specs.declared.named.Named.TheVariants as kinds
 use Rattle.ccr_wiretext.specs.Keywords.{keyword}
 use Rattle.ccr_wiretext.specs.Names.{Naming}
 use Rattle.ccr_wiretext.specs.Drafts.{with_queue, with_port, with_set, with_cause}
 use Rattle.ccr_wiretext.specs.Grammar.{IsNew}
-use Rattle.ccr_wiretext.specs.Spelling.{port_name, policy_words, queue_words, port_words, set_words, cause_words}
+use Rattle.ccr_wiretext.specs.Spelling.{policy_words, queue_words, port_words, set_words, cause_words}
 use Rattle.ccr_base.specs.Lists.{Each}
 use Rattle.ccr_wiretext.proofs.Fit.{PolicyFit, SetFit}
 use Rattle.ccr_wiretext.proofs.Round.Leads.{outside, IsStep, step_to, Leads, leads_from, walk_lines, room_before, each_at}
 use Rattle.ccr_wiretext.proofs.Round.Namings.{Good, names_of, next_names, next_new}
-use Rattle.ccr_wiretext.proofs.Round.Terms.{Again, word_more, name_word, policy_says, policy_clean}
+use Rattle.ccr_wiretext.proofs.Round.Terms.{word_more, name_word, policy_says, policy_clean}
 use Rattle.ccr_wiretext.proofs.Round.Known.{queue_entries, port_entries, set_entries, cause_entries, KnowsPorts, ports_stay, port_says, port_word, ports_say, ports_clean}
 
 -- ---- queues
 
-queue_step : Again → (parts : Parts) (names : Naming) (part : QueuePart) → IsNew names part.name → PolicyFit part.policy → length parts.queues < 16
+queue_step : AreReadAgain → (parts : Parts) (names : Naming) (part : QueuePart) → IsNew names part.name → PolicyFit part.policy → length parts.queues < 16
     → IsStep (outside parts names []) (queue_words part) (with_queue (outside parts names []) part)
 unfolding keyword
 queue_step again parts names part new fit room = record {
@@ -35,7 +37,7 @@ queue_step again parts names part new fit room = record {
   says = (part, record { room = room; rule = policy_words part.policy; spelled = refl; name = new; policy = policy_says again part.policy fit }, refl);
 }
 
-pub queues_lead : Again → (parts : Parts) (front : Naming) (queues : List QueuePart) → Each (λ (part : QueuePart). PolicyFit part.policy) queues → length queues ≤ 16 → Good (names_of (front ++ queue_entries queues))
+pub queues_lead : AreReadAgain → (parts : Parts) (front : Naming) (queues : List QueuePart) → Each (λ (part : QueuePart). PolicyFit part.policy) queues → length queues ≤ 16 → Good (names_of (front ++ queue_entries queues))
     → Leads (outside (record parts { queues = [] }) front []) (map queue_words queues) (outside (record parts { queues = queues }) (front ++ queue_entries queues) [])
 queues_lead again parts front queues fit room good =
     leads_from (outside (record parts { queues = [] }) (front ++ []) []) _ _ _ (ap (λ n. outside (record parts { queues = [] }) n []) (append-nil front))

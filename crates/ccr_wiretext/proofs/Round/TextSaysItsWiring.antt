@@ -6,6 +6,7 @@ use Rattle.std.proofs.lemmas.List.{map-id}
 use Rattle.ccr_text.specs.Lines.{lines_of}
 use Rattle.ccr_text.specs.Spelling.{AreWords, AreLines as AreClean, text_of, spelled_lines}
 use Rattle.ccr_text.specs.Fields.{Words}
+use Rattle.ccr_text.proofs.Digits.{AreReadAgain}
 use Rattle.ccr_wiring.specs.declared.parts.Parts.{Parts}
 use Rattle.ccr_wiring.specs.declared.parts.QueuePart.{QueuePart}
 use Rattle.ccr_wiring.specs.declared.parts.SetPart.{SetPart}
@@ -19,6 +20,7 @@ use Rattle.ccr_wiring.specs.declared.parts.Kind.TheVariants as arbiters
 use Rattle.ccr_wiring.specs.Names.{arbiter_names, declared_names}
 use Rattle.ccr_wiring.specs.Spots.{named_ports}
 use Rattle.ccr_wiring.specs.Valid.{IsValid}
+use Rattle.ccr_wiring.proofs.Validity.{NoCodes, no_codes}
 use Rattle.ccr_wiretext.specs.declared.keyword.Keyword.TheVariants as keywords
 use Rattle.ccr_wiretext.specs.declared.named.Named.TheVariants as kinds
 use Rattle.ccr_wiretext.specs.Keywords.{keyword}
@@ -32,7 +34,7 @@ use Rattle.ccr_wiretext.proofs.TextsRead.{text_read}
 use Rattle.ccr_wiretext.proofs.Sound.{Counts, Fits}
 use Rattle.ccr_wiretext.proofs.Round.Leads.{outside, IsStep, Leads, leads_on, leads_say, leads_clean}
 use Rattle.ccr_wiretext.proofs.Round.Namings.{Good, names_of, names_append, names_entries, good_front}
-use Rattle.ccr_wiretext.proofs.Round.Terms.{Again, word_more, number_word, within_says}
+use Rattle.ccr_wiretext.proofs.Round.Terms.{word_more, number_word, within_says}
 use Rattle.ccr_wiretext.proofs.Round.Known.{queue_entries, port_entries, set_entries, cause_entries, handler_entries, ports_known, queues_known, causes_known, handlers_known, ports_stay, queues_stay, causes_stay}
 use Rattle.ccr_wiretext.proofs.Round.Sources.{queues_lead, ports_lead, sets_lead, causes_lead}
 use Rattle.ccr_wiretext.proofs.Round.Handling.{handlers_lead}
@@ -41,7 +43,6 @@ use Rattle.ccr_wiretext.proofs.Round.Firing.{arbiter_entries}
 use Rattle.ccr_wiretext.proofs.Round.Arbiters.{firing_entries, arbiters_lead}
 use Rattle.ccr_wiretext.proofs.Round.Combining.{interleaves_known, domains_lead}
 use Rattle.ccr_wiretext.proofs.Round.Posting.{poster_entries, posters_lead}
-use Rattle.ccr_wiretext.proofs.Round.Validity.{NoCode, no_code}
 use Rattle.ccr_wiretext.proofs.Round.Fitting.{valid_counts, valid_fits, valid_names, valid_fine}
 
 -- ---- the names, kind by kind
@@ -123,7 +124,7 @@ with_arbiters w = record (with_handlers w) { arbiters = w.arbiters }
 abbrev with_domains : Parts → Parts
 with_domains w = record (with_arbiters w) { domains = w.domains }
 
-budget_step : Again → (version n : ℕ) → n ≤ 10000 → IsStep (nothing version) (budget_words n) (with_budget (nothing version) n)
+budget_step : AreReadAgain → (version n : ℕ) → n ≤ 10000 → IsStep (nothing version) (budget_words n) (with_budget (nothing version) n)
 unfolding keyword
 budget_step again version n few = record {
   first = codes "budget";
@@ -158,7 +159,7 @@ record Goods (w : Parts) : Type 0 where
   arbiters : Good (names_of (to_arbiters w))
   posters : Good (names_of (to_posters w))
 
-goods : (w : Parts) → NoCode w → Goods w
+goods : (w : Parts) → NoCodes w → Goods w
 goods w none =
     let posters : Good (names_of (to_posters w)) = subst Good (sym (all_called w)) (valid_names w none) in
     let arbiters = good_to (to_arbiters w) (poster_entries w.posters) posters in
@@ -169,7 +170,7 @@ goods w none =
     let queues = good_to (to_queues w) (port_entries w.ports) ports in
     record { queues = queues; ports = ports; sets = sets; causes = causes; handlers = handlers; arbiters = arbiters; posters = posters }
 
-firsts_lead : Again → (w : Parts) → Counts w → Fits w → Goods w → Leads (nothing w.version) (first_lines w) (outside (with_queues w) (to_queues w) [])
+firsts_lead : AreReadAgain → (w : Parts) → Counts w → Fits w → Goods w → Leads (nothing w.version) (first_lines w) (outside (with_queues w) (to_queues w) [])
 firsts_lead again w counts fits good =
     (with_budget (nothing w.version) w.budget, budget_step again w.version w.budget counts.budget, queues_lead again (some_parts w) [] w.queues fits.queues counts.queues good.queues)
 
@@ -182,7 +183,7 @@ seconds_lead w counts fits good =
     (sets_lead w (with_ports w) (to_ports w) w.sets known fits.sets counts.sets good.sets))
     (causes_lead w (with_sets w) (to_sets w) w.causes (ports_stay w (to_ports w) (set_entries w.sets) known) fits.causes counts.causes good.causes)
 
-thirds_lead : Again → (w : Parts) → NoCode w → IsValued w → Counts w → Fits w → Goods w → Leads (outside (with_causes w) (to_causes w) []) (third_lines w) (outside w (to_posters w) (named_ports w))
+thirds_lead : AreReadAgain → (w : Parts) → NoCodes w → IsValued w → Counts w → Fits w → Goods w → Leads (outside (with_causes w) (to_causes w) []) (third_lines w) (outside w (to_posters w) (named_ports w))
 thirds_lead again w none valued counts fits good =
     let ports = ports_stay w (to_sets w) (cause_entries w.causes) (ports_stay w (to_ports w) (set_entries w.sets) (ports_known w (to_queues w) good.ports)) in
     let causes = causes_known w (to_sets w) good.causes in
@@ -205,9 +206,9 @@ thirds_lead again w none valued counts fits good =
 abbrev lines_behind : Parts → List Words
 lines_behind w = first_lines w ++ second_lines w ++ third_lines w
 
-whole_leads : Again → (w : Parts) → IsValid w → IsValued w → Leads (nothing w.version) (lines_behind w) (outside w (to_posters w) (named_ports w))
+whole_leads : AreReadAgain → (w : Parts) → IsValid w → IsValued w → Leads (nothing w.version) (lines_behind w) (outside w (to_posters w) (named_ports w))
 whole_leads again w valid valued =
-    let none = no_code w valid in
+    let none = no_codes w valid in
     let counts = valid_counts w none in
     let fits = valid_fits w none in
     let good = goods w none in
@@ -243,14 +244,14 @@ lines_are : (w : Parts) → canonical_lines w ≡ version_words w.version ∷ li
 unfolding queue_lines port_lines acting_lines
 lines_are w = refl
 
-is_text : Again → FoundAgain → (w : Parts) → IsValid w → IsValued w → IsText (spelling w) w
+is_text : AreReadAgain → FoundAgain → (w : Parts) → IsValid w → IsValued w → IsText (spelling w) w
 is_text again found w valid valued =
     let final : Declared = outside w (to_posters w) (named_ports w) in
     let leads = whole_leads again w valid valued in
-    let head = head_is w.version (no_code w valid).version in
+    let head = head_is w.version (no_codes w valid).version in
     let clean : AreClean (version_words w.version ∷ lines_behind w) = (head.1, leads_clean (nothing w.version) (lines_behind w) final leads) in
     let same : lines_of (spelling w) ≡ spelled_lines 1 (version_words w.version ∷ lines_behind w) = ap (λ (lines : List Words). lines_of (text_of lines)) (lines_are w) ∙ found (version_words w.version ∷ lines_behind w) clean in
     subst (λ lines. AreHeadedLines lines w) (sym same) (refl, inr (w.version, head.0, leads_say 2 (nothing w.version) (lines_behind w) final leads refl))
 
-pub written_read : Again → FoundAgain → (w : Parts) → IsValid w → IsValued w → reading_text (spelling w) ≡ Ok w
+pub written_read : AreReadAgain → FoundAgain → (w : Parts) → IsValid w → IsValued w → reading_text (spelling w) ≡ Ok w
 written_read again found w valid valued = text_read (spelling w) w (is_text again found w valid valued)

@@ -1,5 +1,5 @@
 -- What a valid wiring has: numbers within their limits, references that name something, names apart, ports not crowded.
-use Rattle.std.proofs.Common.{◌≡◌, ℕ, ◌<◌, ◌≤◌, Bool, true, false, List, [], ◌∷◌, length, None, inl, inr, refl, arith}
+use Rattle.std.proofs.Common.{◌≡◌, ℕ, ◌<◌, ◌≤◌, Bool, true, false, List, [], ◌∷◌, length, inl, inr, refl, arith}
 use Rattle.std.specs.Prelude.{◌==◌, ◌&&◌, ◌||◌, not, nat_lt}
 use Rattle.std.specs.List.{list_any}
 use Rattle.std.proofs.lemmas.Bool.Decides.{nat_tests}
@@ -15,7 +15,6 @@ use Rattle.ccr_base.specs.declared.patterns.Slot.{Slot}
 use Rattle.ccr_base.specs.declared.patterns.Pattern.{Pattern}
 use Rattle.ccr_base.specs.declared.patterns.Pattern.TheVariants as patterns
 use Rattle.ccr_base.proofs.Booleans.{not_true, not_refuted}
-use Rattle.ccr_base.proofs.Options.{none_cond as skip}
 use Rattle.ccr_wiring.specs.declared.parts.Parts.{Parts}
 use Rattle.ccr_wiring.specs.declared.parts.SetPart.{SetPart}
 use Rattle.ccr_wiring.specs.declared.parts.HandlerPart.{HandlerPart}
@@ -24,15 +23,11 @@ use Rattle.ccr_wiring.specs.declared.parts.ArbiterPart.{ArbiterPart}
 use Rattle.ccr_wiring.specs.declared.parts.PosterPart.{PosterPart}
 use Rattle.ccr_wiring.specs.declared.parts.DomainPart.{DomainPart}
 use Rattle.ccr_wiring.specs.declared.parts.Kind.{Kind}
-use Rattle.ccr_wiring.specs.Groups.{may_have, is_receive, is_one_named, is_misgrouped, has_strange_group, has_misgrouped, is_branchless, has_branchless}
-use Rattle.ccr_wiring.specs.Names.{has_repeated_name, has_malformed_name}
-use Rattle.ccr_wiring.specs.References.{is_beyond, has_beyond, action_is_dangling, pattern_is_dangling, branch_is_dangling, post_is_dangling, set_is_dangling, handler_is_dangling, arbiter_is_dangling, poster_is_dangling, no_interleave, domain_is_dangling, has_dangling}
-use Rattle.ccr_wiring.specs.Repeats.{names_ports_once, branch_repeats, arbiter_repeats, set_repeats, post_repeats, poster_repeats, has_repeat}
-use Rattle.ccr_wiring.specs.Limits.{is_outside, policy_is_outside, expr_is_outside, action_is_outside, slot_is_outside, pattern_is_outside, branch_is_outside, set_is_outside, handler_is_outside, arbiter_is_outside, domain_is_outside, has_outside}
-use Rattle.ccr_wiring.specs.Versions.{has_strange_version, is_long, expr_is_newer, action_is_newer, handler_is_newer, poster_is_newer, has_newer}
-use Rattle.ccr_wiring.specs.Spots.{has_crowded_port}
-use Rattle.ccr_wiring.specs.Codes.{code_of}
-use Rattle.ccr_wiring.specs.Valid.{IsValid}
+use Rattle.ccr_wiring.specs.Groups.{may_have, is_receive, is_one_named, is_misgrouped, has_strange_group, is_branchless}
+use Rattle.ccr_wiring.specs.References.{is_beyond, has_beyond, action_is_dangling, pattern_is_dangling, branch_is_dangling, post_is_dangling, set_is_dangling, handler_is_dangling, arbiter_is_dangling, poster_is_dangling, no_interleave, domain_is_dangling}
+use Rattle.ccr_wiring.specs.Repeats.{names_ports_once, branch_repeats, arbiter_repeats, set_repeats, post_repeats, poster_repeats}
+use Rattle.ccr_wiring.specs.Limits.{is_outside, policy_is_outside, expr_is_outside, action_is_outside, slot_is_outside, pattern_is_outside, branch_is_outside, set_is_outside, handler_is_outside, arbiter_is_outside, domain_is_outside}
+use Rattle.ccr_wiring.specs.Versions.{is_long, expr_is_newer, action_is_newer, handler_is_newer, poster_is_newer}
 use Rattle.ccr_wiring.proofs.Soundness.{below}
 use Rattle.ccr_wiretext.proofs.Each.{neither}
 use Rattle.ccr_base.specs.Lists.{Each, are_apart}
@@ -190,33 +185,3 @@ pub domain_fits : (parts : Parts) (part : DomainPart) → domain_is_dangling par
 domain_fits parts part there inside =
     let counted = limits 2 8 (length part.members) inside in
     (each_if (InterleaveFit parts.arbiters) (no_interleave parts) (λ n e. e) part.members there, counted.0, counted.1)
-
--- ---- all codes
-
--- no condition of a code stands
-pub record NoCode (parts : Parts) : Type 0 where
-  pub version : has_strange_version parts ≡ false
-  pub grouped : has_misgrouped parts ≡ false
-  pub newer : has_newer parts ≡ false
-  pub apart : has_repeated_name parts ≡ false
-  pub there : has_dangling parts ≡ false
-  pub once : has_repeat parts ≡ false
-  pub inside : has_outside parts ≡ false
-  pub branched : has_branchless parts ≡ false
-  pub fine : has_crowded_port parts ≡ false
-  pub formed : has_malformed_name parts ≡ false
-
-pub no_code : (parts : Parts) → IsValid parts → NoCode parts
-unfolding code_of
-no_code parts valid =
-    let v = skip (has_strange_version parts) 2 _ valid in
-    let a = skip (has_misgrouped parts) 3 _ v.1 in
-    let n = skip (has_newer parts) 5 _ a.1 in
-    let b = skip (has_repeated_name parts) 6 _ n.1 in
-    let c = skip (has_dangling parts) 7 _ b.1 in
-    let d = skip (has_repeat parts) 8 _ c.1 in
-    let e = skip (has_outside parts) 10 _ d.1 in
-    let f = skip (has_branchless parts) 11 _ e.1 in
-    let g = skip (has_crowded_port parts) 12 _ f.1 in
-    let h = skip (has_malformed_name parts) 14 None g.1 in
-    record { version = v.0; grouped = a.0; newer = n.0; apart = b.0; there = c.0; once = d.0; inside = e.0; branched = f.0; fine = g.0; formed = h.0 }

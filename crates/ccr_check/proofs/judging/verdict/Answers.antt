@@ -1,6 +1,6 @@
 use Rattle.std.proofs.Common.{◌≡◌, [], None, arith}
 use Rattle.ccr_model.specs.Legal.{first_refusal}
-use Rattle.ccr_check.proofs.Places.{IsLegalAfter-none, not_legal}
+use Rattle.ccr_check.proofs.FirstRefusals.{IsLegalAfter-none, not_legal}
 use Rattle.ccr_check.proofs.judging.verdict.Goals as goal
 
 pub returns-in-Some-clause-legal : goal.returns-in-Some-clause-legal

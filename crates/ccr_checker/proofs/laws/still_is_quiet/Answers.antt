@@ -1,14 +1,15 @@
-use Rattle.std.proofs.Common.{◌≤◌, length, arith, subst}
+use Rattle.std.proofs.Common.{◌≤◌, length, arith, subst, ◌∙◌}
 use Rattle.std.specs.Prelude.{IfSome}
+use Rattle.ccr_base.proofs.Options.{none_is}
 use Rattle.ccr_model.specs.Legal.{IsAllowed}
 use Rattle.ccr_model.specs.Order.{first}
 use Rattle.ccr_checker.specs.Left.{is_still}
-use Rattle.ccr_checker.proofs.Stillness.{is_still-first, none_where_not, some_where_not}
+use Rattle.ccr_checker.proofs.Stillness.{is_still-first, some_where_not}
 use Rattle.ccr_checker.proofs.laws.still_is_quiet.Goals as goal
 
 pub returns-clause-still : goal.returns-clause-still
 returns-clause-still c = λ w h valid still.
-    c.none_first_is_quiet.ensures w (length w.posters) h (c.valid_wirings_are_sound.ensures w valid).queues (none_where_not (first w (length w.posters) h) (is_still w h) (is_still-first w (length w.posters) h) still)
+    c.none_first_is_quiet.ensures w (length w.posters) h (c.valid_wirings_are_sound.ensures w valid).queues (none_is (first w (length w.posters) h) (is_still-first w (length w.posters) h ∙ still))
 
 pub returns-clause-left : goal.returns-clause-left
 returns-clause-left c = λ w h valid legal left.

@@ -4,7 +4,7 @@ use Rattle.ccr_wiring.specs.declared.parts.Parts.{Parts}
 use Rattle.ccr_model.specs.Legal.{IsLegal, IsQuiet, is_complete}
 use Rattle.ccr_text.specs.Spelling.{text_of}
 use Rattle.ccr_trace.specs.HistoryText.{history_text}
-use Rattle.ccr_service.specs.declared.replies.Answer.{Answer}
+use Rattle.ccr_service.specs.declared.answer.Answer.{Answer}
 use Rattle.ccr_service.specs.Telling.{answers_of}
 use Rattle.ccr_commands.specs.Runs.{IsRunHistory}
 use Rattle.ccr_commands.specs.Services.{client_lines}

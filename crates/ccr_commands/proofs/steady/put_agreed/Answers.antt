@@ -1,6 +1,6 @@
 use Rattle.std.proofs.Common.{◌≡◌, ◌++◌, sym, subst}
 use Rattle.std.specs.Prelude.{OnOk}
-use Rattle.ccr_steady.specs.declared.answers.Agreed.{Agreed}
+use Rattle.ccr_steady.specs.declared.agreement.Agreed.{Agreed}
 use Rattle.ccr_commands.specs.Steady.{agreed_text}
 use Rattle.ccr_commands.proofs.steady.put_agreed.Goals as goal
 

@@ -1,6 +1,6 @@
 use Rattle.std.specs.List.{list_all}
 use Rattle.ccr_base.specs.declared.patterns.Slot.{Slot}
-use Rattle.ccr_base.specs.Choice.{is_choosable}
+use Rattle.ccr_base.specs.Selection.{is_choosable}
 use Rattle.ccr_model.specs.Posts.{held}
 use Rattle.ccr_base.proofs.Loops.{GivesAsWhole}
 use Rattle.ccr_model.proofs.enough.slots_have_enough.Given as goal

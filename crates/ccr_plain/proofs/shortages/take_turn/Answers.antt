@@ -1,7 +1,8 @@
 use Rattle.std.proofs.Common.{◌≡◌, false, get_or, sym, ap, ◌∙◌}
 use Rattle.std.proofs.lemmas.Option.{slice_get-get_or}
+use Rattle.std.proofs.lemmas.Result.{IfOk-weaker}
 use Rattle.ccr_actor.specs.Acting.{is_at_rest}
-use Rattle.ccr_plain.proofs.RefusedActorsGoOn.{if_ok, rest_turned, turn_few, turn_turned, turn_wiring}
+use Rattle.ccr_plain.proofs.RefusedActorsGoOn.{rest_turned, turn_few, turn_turned, turn_wiring}
 use Rattle.ccr_net.proofs.Played.PlayedRunsGoOn.{acting_quiet, acting_so, asks_one, met_so, rests, same_read, seat_few}
 use Rattle.ccr_plain.proofs.shortages.take_turn.Goals as goal
 
@@ -40,12 +41,12 @@ pub returns-clause-run : goal.returns-clause-run
 returns-clause-run c =
     let d = c.index-actors-turn-2.result in
     let team = c.args.actors.now in
-    if_ok c.make_ask.result (λ number turn lacks played. turn_turned c.args.workers lacks c.args.places.now team c.args.entries.now.items c.requires.workers played c.args.turn c.requires.turn (get_or team c.args.turn d) (slice_get-get_or team c.args.turn d c.requires.turn) c.args.refused.now c.args.asks c.make_ask.new.places c.make_ask.new.actor c.make_ask.new.entries.items number turn) c.make_ask.ensures
+    IfOk-weaker c.make_ask.result _ _ (λ number turn lacks played. turn_turned c.args.workers lacks c.args.places.now team c.args.entries.now.items c.requires.workers played c.args.turn c.requires.turn (get_or team c.args.turn d) (slice_get-get_or team c.args.turn d c.requires.turn) c.args.refused.now c.args.asks c.make_ask.new.places c.make_ask.new.actor c.make_ask.new.entries.items number turn) c.make_ask.ensures
 
 pub returns-clause-wiring : goal.returns-clause-wiring
 returns-clause-wiring c =
-    if_ok c.make_ask.result (λ number turn. turn_wiring c.args.refused.now c.args.asks c.args.places.now (get_or c.args.actors.now c.args.turn c.index-actors-turn-2.result) c.args.entries.now.items c.make_ask.new.places c.make_ask.new.actor c.make_ask.new.entries.items number turn) c.make_ask.ensures
+    IfOk-weaker c.make_ask.result _ _ (λ number turn. turn_wiring c.args.refused.now c.args.asks c.args.places.now (get_or c.args.actors.now c.args.turn c.index-actors-turn-2.result) c.args.entries.now.items c.make_ask.new.places c.make_ask.new.actor c.make_ask.new.entries.items number turn) c.make_ask.ensures
 
 pub returns-clause-few : goal.returns-clause-few
 returns-clause-few c =
-    if_ok c.make_ask.result (λ number turn. turn_few c.args.refused.now c.args.asks c.args.places.now (get_or c.args.actors.now c.args.turn c.index-actors-turn-2.result) c.args.entries.now.items c.make_ask.new.places c.make_ask.new.actor c.make_ask.new.entries.items number turn) c.make_ask.ensures
+    IfOk-weaker c.make_ask.result _ _ (λ number turn. turn_few c.args.refused.now c.args.asks c.args.places.now (get_or c.args.actors.now c.args.turn c.index-actors-turn-2.result) c.args.entries.now.items c.make_ask.new.places c.make_ask.new.actor c.make_ask.new.entries.items number turn) c.make_ask.ensures

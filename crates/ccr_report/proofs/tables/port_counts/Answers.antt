@@ -3,7 +3,8 @@ use Rattle.ccr_base.specs.declared.names.MsgId.{MsgId}
 use Rattle.ccr_base.specs.declared.messages.Msg.{Msg}
 use Rattle.ccr_base.specs.Names.{has_message}
 use Rattle.ccr_model.specs.Posts.{posts}
-use Rattle.ccr_report.specs.Counting.{times, ports_of}
+use Rattle.ccr_wiring.specs.Spots.{times}
+use Rattle.ccr_report.specs.Counting.{ports_of}
 use Rattle.ccr_report.proofs.Tallies.{times-posted, times-held}
 use Rattle.ccr_report.proofs.tables.port_counts.Goals as goal
 

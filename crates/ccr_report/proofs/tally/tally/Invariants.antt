@@ -1,5 +1,5 @@
 use Rattle.std.proofs.Common.{◌≡◌, ◌<◌, ℕ, take, length, slice_index}
-use Rattle.ccr_report.specs.Counting.{times}
+use Rattle.ccr_wiring.specs.Spots.{times}
 use Rattle.ccr_report.proofs.tally.tally.Given as goal
 
 abbrev pub invariant-loop-number : goal.invariant-loop-number

@@ -1,5 +1,5 @@
 use Rattle.std.proofs.Common.{◌∙◌, ◌++◌, ◌∷◌, [], ◌+◌, ap, drop, List}
-use Rattle.ccr_service.specs.declared.replies.Answer.{Answer}
+use Rattle.ccr_service.specs.declared.answer.Answer.{Answer}
 use Rattle.ccr_service.specs.Telling.{told_asks}
 use Rattle.ccr_service.proofs.TellingAll.{told_next}
 use Rattle.ccr_service.proofs.telling.add_client.Goals as goal

@@ -1,8 +1,8 @@
 use Rattle.std.proofs.Common.{◌≡◌, true, false, None, Some, subst}
 use Rattle.std.specs.Prelude.{IfOk}
 use Rattle.ccr_actor.specs.Acting.{Acting, IsAfter}
-use Rattle.ccr_actor.specs.Courses.{IsHeld, IsUnanswered, seen}
-use Rattle.ccr_actor.proofs.FieldsAfterAStep.{IsFinished, got_after, got_held, may_so, within}
+use Rattle.ccr_actor.specs.Courses.{IsSound, IsUnanswered, seen}
+use Rattle.ccr_actor.proofs.FieldsAfterAStep.{IsFinished, got_after, got_sound, may_so, within}
 use Rattle.ccr_actor.specs.Needs.{needs_memory, takes_unnumbered}
 use Rattle.ccr_actor.proofs.AnswersNeedMemory.{got_needs, got_unnumbered}
 use Rattle.ccr_actor.proofs.actor.Actor.got.Goals as goal
@@ -10,13 +10,13 @@ use Rattle.ccr_actor.proofs.actor.Actor.got.Goals as goal
 finished : (c : goal.After-finish) → IsFinished c.answer-made.result c.answer-made.new.self c.finish.new.self
 finished c = record { state = c.finish.ensures.state; refused = c.finish.ensures.refused; same = c.finish.ensures.same }
 
-held : (c : goal.After-finish) → IsHeld c.finish.new.self None
-held c =
+sound : (c : goal.After-finish) → IsSound c.finish.new.self None
+sound c =
     let e = c.answer-made.ensures in
-    got_held c.answer-made.result c.self.inside.course c.answer-made.new.self c.finish.new.self c.self.inside.unanswered c.in-Some.part c.args.reply c.self.invariant e.beside e.step (finished c) c.finish.ensures.ready c.finish.ensures.quiet c.finish.ensures.counted
+    got_sound c.answer-made.result c.self.inside.course c.answer-made.new.self c.finish.new.self c.self.inside.unanswered c.in-Some.part c.args.reply c.self.invariant e.beside e.step (finished c) c.finish.ensures.ready c.finish.ensures.quiet c.finish.ensures.counted
 
 pub invariant_of-self : goal.invariant_of-self
-invariant_of-self c = held c
+invariant_of-self c = sound c
 
 pub returns-clause-after : goal.returns-clause-after
 returns-clause-after c =
@@ -52,4 +52,4 @@ returns-clause-unnumbered c =
     (got_unnumbered c.answer-made.result old c.finish.new.self part due c.args.reply asked.0 c.answer-made.ensures.numbered c.finish.ensures.short)
 
 pub returns-clause-within : goal.returns-clause-within
-returns-clause-within c = within c.finish.new.self (held c)
+returns-clause-within c = within c.finish.new.self (sound c)

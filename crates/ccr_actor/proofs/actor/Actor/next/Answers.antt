@@ -1,16 +1,16 @@
 use Rattle.std.proofs.Common.{None, Some, sym, ap, subst, ◌∙◌}
 use Rattle.std.specs.Option.{option_map}
 use Rattle.ccr_actor.specs.Acting.{Acting, next, pair_of, sent}
-use Rattle.ccr_actor.specs.Courses.{IsHeld, seen}
-use Rattle.ccr_actor.proofs.FieldsAfterAStep.{held_none, next_asks, next_held, seen_none, sent_seen, still_none}
+use Rattle.ccr_actor.specs.Courses.{IsSound, seen}
+use Rattle.ccr_actor.proofs.FieldsAfterAStep.{sound_none, next_asks, next_sound, seen_none, sent_seen, still_none}
 use Rattle.ccr_actor.proofs.actor.Actor.next.Goals as goal
 
 pub invariant_of-self : goal.invariant_of-self
 invariant_of-self c =
     let old = c.self.inside.course in
-    let held = held_none old c.self.inside.unanswered c.args.self.now c.self.invariant c.self.view_is c.requires in
+    let sound = sound_none old c.self.inside.unanswered c.args.self.now c.self.invariant c.self.view_is c.requires in
     let e = c.in_default.ensures in
-    still_none old c.ask.new.self c.self.inside.unanswered c.args.self.now c.self.view_is c.requires (next_held old c.ask.new.self None held e.beside.wiring e.beside.short e.state (e.rest, e.due) e.counted)
+    still_none old c.ask.new.self c.self.inside.unanswered c.args.self.now c.self.view_is c.requires (next_sound old c.ask.new.self None sound e.beside.wiring e.beside.short e.state (e.rest, e.due) e.counted)
 
 pub returns-in_default-clause-asked : goal.returns-in_default-clause-asked
 returns-in_default-clause-asked c =
@@ -20,9 +20,9 @@ returns-in_default-clause-asked c =
 pub invariant_of-self-2 : goal.invariant_of-self-2
 invariant_of-self-2 c =
     let old = c.self.inside.course in
-    let held = held_none old c.self.inside.unanswered c.args.self.now c.self.invariant c.self.view_is c.requires in
+    let sound = sound_none old c.self.inside.unanswered c.args.self.now c.self.invariant c.self.view_is c.requires in
     let e = c.in-Some.ensures in
-    subst (λ d. IsHeld c.ask.new.self (Some (c.in-Some.part, d))) (sym c.due_of.ensures) (next_held old c.ask.new.self (Some (c.in-Some.part, c.in-Some.asked)) held e.beside.wiring e.beside.short e.state (e.part, e.due) e.counted)
+    subst (λ d. IsSound c.ask.new.self (Some (c.in-Some.part, d))) (sym c.due_of.ensures) (next_sound old c.ask.new.self (Some (c.in-Some.part, c.in-Some.asked)) sound e.beside.wiring e.beside.short e.state (e.part, e.due) e.counted)
 
 pub returns-clause-asked : goal.returns-clause-asked
 returns-clause-asked c =

@@ -1,5 +1,5 @@
 use Rattle.std.proofs.Common.{◌≡◌, ◌++◌, take}
-use Rattle.ccr_base.specs.Choice.{fitting}
+use Rattle.ccr_base.specs.Selection.{fitting}
 use Rattle.ccr_ledger.specs.Taken.{IsLeftOf, without_some}
 use Rattle.ccr_ledger.proofs.held.HeldMessages.take_some.Given as goal
 

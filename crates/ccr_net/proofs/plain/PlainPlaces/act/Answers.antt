@@ -51,7 +51,7 @@ returns-clause-acts c =
     let w = c.self.inside.wiring.now in
     let acts = seen_acts c.self.inside.acts.items in
     let all = acts_are c ∙ ap (λ n. acts ++ act_at (scene_after w acts) (stamp_of c.args.actor acts) n c.args.actor c.args.ask ∷ []) number_is in
-    let P : PlainState → Type 0 = λ stage. seen_acts c.push_reserved.new.self.items ≡ stage.acts ++ act_after stage.wiring stage.acts c.args.actor c.args.place c.args.ask ∷ [] in
+    let P : PlainState → Type 0 = λ state. seen_acts c.push_reserved.new.self.items ≡ state.acts ++ act_after state.wiring state.acts c.args.actor c.args.place c.args.ask ∷ [] in
     subst P c.self.view_is all
 
 pub returns-clause-fits : goal.returns-clause-fits

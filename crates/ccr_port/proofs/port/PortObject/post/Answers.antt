@@ -1,13 +1,10 @@
-use Rattle.std.proofs.Common.{◌≡◌, ◌==◌, ◌∙◌, sym, ap, refl, rules, Some}
-use Rattle.ccr_base.specs.declared.messages.Msg.{Msg}
+use Rattle.std.proofs.Common.{◌==◌, ◌∙◌, sym, ap, refl, rules}
+use Rattle.std.proofs.lemmas.Option.{same_Some}
 use Rattle.ccr_places.specs.Ports.{PortState}
 use Rattle.ccr_port.proofs.Listing.{messages-more, without-more, has-more, under-more}
 use Rattle.ccr_port.proofs.MessagesBearTheirPort.{own_post}
 use Rattle.ccr_port.proofs.PortSteps.{few_posted, posted, may_enter-all, gave_up}
 use Rattle.ccr_port.proofs.port.PortObject.post.Goals as goal
-
-some_same : (m n : Msg) → Some m ≡ Some n → m ≡ n
-some_same m n is = cc
 
 pub append-requires : goal.append-requires
 append-requires c = few_posted c.self.inside.items c.args.self.now c.args.message (ap (λ (port : PortState). port.items) (sym c.self.view_is)) c.requires
@@ -31,7 +28,7 @@ pub returns-then-is_err-clause-returned : goal.returns-then-is_err-clause-return
 returns-then-is_err-clause-returned c =
     let found = rw c.in_ok-key.ensures.ok at c.take.ensures.message in
     let same = under-more c.in_ok-key.key c.args.message c.self.inside.items c.in_ok-key.ensures.fresh in
-    some_same _ _ (sym found ∙ same)
+    same_Some _ _ (sym found ∙ same)
 
 pub enter_all-requires : goal.enter_all-requires
 enter_all-requires c =

@@ -2,7 +2,7 @@ use Rattle.std.proofs.Common.{◌≡◌, ◌∙◌, false, sym, ap, is_some, tru
 use Rattle.std.proofs.lemmas.List.{map-append, length-map}
 use Rattle.std.specs.Option.{option_map_or}
 use Rattle.ccr_places.specs.TaskTables.{contains-tasks_where}
-use Rattle.ccr_queue.specs.QueueStages.{queued_of, is_resuming}
+use Rattle.ccr_queue.specs.QueueTies.{queued_of, is_resuming}
 use Rattle.ccr_queue.proofs.TableSteps.{booked-stage, place-left, put_last, sets_put}
 use Rattle.ccr_queue.proofs.queue.QueueObject.push.Goals as goal
 

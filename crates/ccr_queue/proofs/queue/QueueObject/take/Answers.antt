@@ -1,7 +1,7 @@
 use Rattle.std.proofs.Common.{◌≡◌, ◌+◌, ◌∙◌, Bool, true, false, not, cond, is_some, List, refl, ap, subst, length, map, deque_capacity}
 use Rattle.std.specs.Int.{from_bool}
 use Rattle.ccr_queue.specs.declared.stage.QueuedTask.{QueuedTask}
-use Rattle.ccr_queue.specs.QueueStages.{Tied, queued_of}
+use Rattle.ccr_queue.specs.QueueTies.{Tied, queued_of}
 use Rattle.ccr_queue.proofs.TableSteps.{oldest-there, taken, sets_taken}
 use Rattle.ccr_queue.proofs.queue.QueueObject.take.Goals as goal
 

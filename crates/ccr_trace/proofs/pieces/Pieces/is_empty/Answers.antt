@@ -1,6 +1,6 @@
 use Rattle.std.proofs.Common.{◌∙◌, ap, length}
 use Rattle.std.specs.Prelude.{◌==◌}
-use Rattle.ccr_trace.proofs.Cutting.{none_left}
+use Rattle.ccr_trace.proofs.Splitting.{none_left}
 use Rattle.ccr_trace.proofs.pieces.Pieces.is_empty.Goals as goal
 
 pub returns : goal.returns

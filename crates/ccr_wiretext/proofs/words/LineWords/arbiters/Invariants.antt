@@ -1,5 +1,5 @@
 use Rattle.std.proofs.Common.{◌≡◌, ◌++◌, map, take}
-use Rattle.ccr_wiretext.specs.Spelling.{arbiter_name}
+use Rattle.ccr_wiring.specs.PartNames.{arbiter_name}
 use Rattle.ccr_wiretext.proofs.words.LineWords.arbiters.Given as goal
 
 abbrev pub invariant-loop-arbiter : goal.invariant-loop-arbiter

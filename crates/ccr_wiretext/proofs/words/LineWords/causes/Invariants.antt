@@ -1,5 +1,5 @@
 use Rattle.std.proofs.Common.{◌≡◌, ◌++◌, map, take}
-use Rattle.ccr_wiretext.specs.Spelling.{cause_name}
+use Rattle.ccr_wiring.specs.PartNames.{cause_name}
 use Rattle.ccr_wiretext.proofs.words.LineWords.causes.Given as goal
 
 abbrev pub invariant-loop-cause : goal.invariant-loop-cause

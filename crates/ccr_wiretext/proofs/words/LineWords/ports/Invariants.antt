@@ -1,5 +1,5 @@
 use Rattle.std.proofs.Common.{◌≡◌, ◌++◌, map, take}
-use Rattle.ccr_wiretext.specs.Spelling.{port_name}
+use Rattle.ccr_wiring.specs.PartNames.{port_name}
 use Rattle.ccr_wiretext.proofs.words.LineWords.ports.Given as goal
 
 abbrev pub invariant-loop-port : goal.invariant-loop-port

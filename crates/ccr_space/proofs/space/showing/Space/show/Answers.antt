@@ -42,5 +42,5 @@ returns-clause-run c =
     record {
       entries = told w its.whole;
       closed = closed_by c.args.self c.args.passes c.from_vec.result (merged its.whole) (told w its.whole) c.requires.space c.requires.passes these its.locks c.in_ok-kept.ensures.numbers refl;
-      shown = c.in_ok-history.ensures ∙ (ap acts_shown (c.in_ok-entries.ensures ∙ ap merged its.part) ∙ history_is (keep_of c.args.self.turns) w its.whole);
+      shown = c.in_ok-history.ensures ∙ (ap acts_shown (c.in_ok-acts.ensures ∙ ap merged its.part) ∙ history_is (keep_of c.args.self.turns) w its.whole);
     }

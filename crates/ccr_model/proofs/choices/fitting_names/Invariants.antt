@@ -1,8 +1,0 @@
-use Rattle.std.proofs.Common.{◌≡◌, take}
-use Rattle.ccr_base.specs.Choice.{fitting}
-use Rattle.ccr_model.specs.Choice.{names_of}
-use Rattle.ccr_model.specs.Views.{seen}
-use Rattle.ccr_model.proofs.choices.fitting_names.Given as goal
-
-abbrev pub invariant-loop-message : goal.invariant-loop-message
-invariant-loop-message l = l.names.items ≡ names_of (fitting l.slot.pred (seen (take l.message-index l.held)))
