@@ -3,6 +3,7 @@
 ghost use Rattle.std.specs.Prelude.{◌≡◌, ◌<◌, ◌≤◌, [], ◌∷◌, length, nat_eq};
 ghost use Rattle.std.specs.Cmp.{partial_equiv_from_equiv};
 ghost use Rattle.std.specs.Cmp.Lexicographic.{pointwise, nat_list_eq_equiv};
+ghost use Rattle.ccr_base.specs.Bounds.{most_value_numbers};
 ghost use Rattle.ccr_base.specs.Values.{value_of_numbers, first_number};
 
 use std::marker::Model;
@@ -62,7 +63,7 @@ impl Value {
     pub fn numbers(&self) -> &[u64]
         ensures value { result.now ≡ self.now }
         ensures some { 0 < length self.now }
-        ensures few { length self.now ≤ 8 }
+        ensures few { length self.now ≤ most_value_numbers }
     {
         &self.numbers[..self.count]
     }

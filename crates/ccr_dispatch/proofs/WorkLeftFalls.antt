@@ -39,7 +39,7 @@ use Rattle.ccr_wiring.specs.Takers.{spots_at, takes_from, is_for}
 use Rattle.ccr_actor.specs.Plans.{plan_of, one_of, no_pattern, throttled, is_interleave_number}
 use Rattle.ccr_actor.specs.Actors.{State, Work, lines, round, taking, playing, posting, shedding, resting, spots_left, work_ask, name_at, add_domain, admit_too, settled, strike, after_admit, give_up, driven_on, fire, after_attempt, after_work, after_line, after_round, after_take, after_play, after_end, after_over, take_from}
 use Rattle.ccr_actor.specs.Within.{IsPaced}
-use Rattle.ccr_dispatch.specs.Ranks.{puts_by, puts_in, settles_in, admissions_left, phase_left, drive_left, drive_most, work_left}
+use Rattle.ccr_dispatch.specs.Ranks.{puts_by, put_count, settles_in, admissions_left, phase_left, drive_left, drive_most, work_left}
 
 -- the reply is one that the ask may have
 abbrev pub Fitting : Option Asked → Reply → Type 0
@@ -87,35 +87,35 @@ few_slots wiring (Site branch site) valid = one-at (site_port wiring branch site
 
 -- ---- puts
 
-puts-append : (front back : List Asked) → puts_in (front ++ back) ≡ puts_in front + puts_in back
-puts-append [] back = omega arith
-puts-append (one ∷ front) back = (let rest = puts-append front back in omega (arith, rest))
+put_count-append : (front back : List Asked) → put_count (front ++ back) ≡ put_count front + put_count back
+put_count-append [] back = omega arith
+put_count-append (one ∷ front) back = (let rest = put_count-append front back in omega (arith, rest))
 
 pub settles_append : (front back : List Asked) → settles_in (front ++ back) ≡ settles_in front + settles_in back
-settles_append front back = (let puts = puts-append front back in let all = length-append front back in omega (arith, puts, all))
+settles_append front back = (let puts = put_count-append front back in let all = length-append front back in omega (arith, puts, all))
 
-frees-puts : (task : TaskId) (had : List Had) → puts_in (map (free_ask task) had) ≡ 0
-frees-puts task [] = refl
-frees-puts task (h ∷ had) = (let rest = frees-puts task had in omega (arith, rest))
+put_count-frees : (task : TaskId) (had : List Had) → put_count (map (free_ask task) had) ≡ 0
+put_count-frees task [] = refl
+put_count-frees task (h ∷ had) = (let rest = put_count-frees task had in omega (arith, rest))
 
-consumes-puts : (task : TaskId) (had : List Had) → puts_in (map (consume_ask task) had) ≡ 0
-consumes-puts task [] = refl
-consumes-puts task (h ∷ had) = (let rest = consumes-puts task had in omega (arith, rest))
+put_count-consumes : (task : TaskId) (had : List Had) → put_count (map (consume_ask task) had) ≡ 0
+put_count-consumes task [] = refl
+put_count-consumes task (h ∷ had) = (let rest = put_count-consumes task had in omega (arith, rest))
 
-cuts-puts : (cuts : List Cut) → puts_in (map cut_ask cuts) ≡ 0
-cuts-puts [] = refl
-cuts-puts (cut ∷ cuts) = (let rest = cuts-puts cuts in omega (arith, rest))
+put_count-cuts : (cuts : List Cut) → put_count (map cut_ask cuts) ≡ 0
+put_count-cuts [] = refl
+put_count-cuts (cut ∷ cuts) = (let rest = put_count-cuts cuts in omega (arith, rest))
 
-release-puts : (plan : ClaimPlan) (task : TaskId) (phase : Phase) → puts_in (release plan task phase) ≡ 0
-release-puts plan task booking = refl
-release-puts plan task (claiming left had) = (let all = puts-append (map (free_ask task) (reverse had)) (unbook_ask plan.queue task ∷ []) in let none = frees-puts task (reverse had) in omega (arith, all, none))
+put_count-release : (plan : ClaimPlan) (task : TaskId) (phase : Phase) → put_count (release plan task phase) ≡ 0
+put_count-release plan task booking = refl
+put_count-release plan task (claiming left had) = (let all = put_count-append (map (free_ask task) (reverse had)) (unbook_ask plan.queue task ∷ []) in let none = put_count-frees task (reverse had) in omega (arith, all, none))
 
-firing-puts : (task : TaskId) (had : List Had) (fired : Option Task) (cuts : List Cut) → puts_in (firing_hand task had fired cuts) ≡ puts_in (put_asks fired)
-firing-puts task had fired cuts =
-    let all = puts-append (map (consume_ask task) had) (map cut_ask cuts ++ put_asks fired) in
-    let rest = puts-append (map cut_ask cuts) (put_asks fired) in
-    let none = consumes-puts task had in
-    let also = cuts-puts cuts in
+put_count-firing : (task : TaskId) (had : List Had) (fired : Option Task) (cuts : List Cut) → put_count (firing_hand task had fired cuts) ≡ put_count (put_asks fired)
+put_count-firing task had fired cuts =
+    let all = put_count-append (map (consume_ask task) had) (map cut_ask cuts ++ put_asks fired) in
+    let rest = put_count-append (map cut_ask cuts) (put_asks fired) in
+    let none = put_count-consumes task had in
+    let also = put_count-cuts cuts in
     omega (arith, all, rest, none, also)
 
 -- ---- the admissions
@@ -143,17 +143,17 @@ admit_falls state domain more (replies.Left n) none at few = strike-falls state 
 
 none-waits : (state : State) → state.hand ≡ [] → state.domains ≡ [] → admissions_left state < 98400
 none-waits state none at =
-    let puts : puts_in state.hand ≡ 0 = ap puts_in none in
+    let puts : put_count state.hand ≡ 0 = ap put_count none in
     let count : length state.domains ≡ 0 = ap length at in
     omega (arith, puts, count)
 
 fire-waits : (wiring : Parts) (actor : ℕ) (state : State) (spot : Spot) (more : List Spot) (task : Option Task) (cuts : List Cut) → admissions_left (fire wiring actor state spot more task cuts) < 98400
-fire-waits wiring actor state spot more None cuts = (let puts = firing-puts (name_at actor state) (had_in state.phase) None cuts in omega (arith, puts))
-fire-waits wiring actor state spot more (Some task) cuts = (let puts = firing-puts (name_at actor state) (had_in state.phase) (Some task) cuts in omega (arith, puts))
+fire-waits wiring actor state spot more None cuts = (let puts = put_count-firing (name_at actor state) (had_in state.phase) None cuts in omega (arith, puts))
+fire-waits wiring actor state spot more (Some task) cuts = (let puts = put_count-firing (name_at actor state) (had_in state.phase) (Some task) cuts in omega (arith, puts))
 
 give-waits : (wiring : Parts) (actor : ℕ) (state : State) (spot : Spot) (more : List Spot) → state.domains ≡ [] → admissions_left (give_up wiring actor state spot more) < 98400
 give-waits wiring actor state spot more at =
-    let puts = release-puts (plan_of wiring spot) (name_at actor state) state.phase in
+    let puts = put_count-release (plan_of wiring spot) (name_at actor state) state.phase in
     let count : length state.domains ≡ 0 = ap length at in
     omega (arith, puts, count)
 
@@ -265,7 +265,7 @@ pub calm_drive : (wiring : Parts) (state : State) → IsCalm wiring state → dr
 calm_drive wiring state is = (let few = is.driven in let left : phase_left state.phase ≡ 11 = ap phase_left is.phase in omega (arith, few, left))
 
 pub calm_waits : (wiring : Parts) (state : State) → IsCalm wiring state → admissions_left state < 98400
-calm_waits wiring state is = (let few = is.domains in let puts : puts_in state.hand ≡ 0 = ap puts_in is.hand in omega (arith, few, puts))
+calm_waits wiring state is = (let few = is.domains in let puts : put_count state.hand ≡ 0 = ap put_count is.hand in omega (arith, few, puts))
 
 calm-from : (wiring : Parts) (state : State) (left queue : ℕ) (parts : List QueuePart) → IsCalm wiring state → IsCalm wiring (take_from wiring state left queue parts)
 calm-from wiring state left queue [] is = record { driven = is.driven; phase = is.phase; hand = is.hand; domains = is.domains }
@@ -498,7 +498,7 @@ pub record IsLess (state new : State) : Type 0 where
 
 goes : (state : State) (one : Asked) (more : List Asked) → state.hand ≡ one ∷ more → IsLess state (record state { hand = more })
 goes state one more at =
-    let puts : puts_in state.hand ≡ puts_by one.ask + puts_in more = ap puts_in at in
+    let puts : put_count state.hand ≡ puts_by one.ask + put_count more = ap put_count at in
     let count : length state.hand ≡ suc (length more) = ap length at in
     record { admissions = omega (arith, puts); hand = omega (arith, puts, count) }
 
@@ -514,7 +514,7 @@ hand_falls wiring state one more replies.Booked at fit = goes state one more at
 hand_falls wiring state one more (replies.Full n) at fit = goes state one more at
 hand_falls wiring state one more (replies.Dropped None) at fit = goes state one more at
 hand_falls wiring state one more (replies.Dropped (Some task)) at fit =
-    let puts : puts_in state.hand ≡ puts_by one.ask + puts_in more = ap puts_in at in
+    let puts : put_count state.hand ≡ puts_by one.ask + put_count more = ap put_count at in
     let count : length state.hand ≡ suc (length more) = ap length at in
     let put = put-fits one.ask (Some task) fit in
     let few = too-few wiring state task in

@@ -19,13 +19,13 @@ puts_by (asks.Put task) = 1
 puts_by _ = 0
 
 -- how many tasks are still to be put
-abbrev pub puts_in : List Asked → ℕ
-puts_in [] = 0
-puts_in (one ∷ more) = puts_by one.ask + puts_in more
+abbrev pub put_count : List Asked → ℕ
+put_count [] = 0
+put_count (one ∷ more) = puts_by one.ask + put_count more
 
 -- how many asks it takes to settle these: a put may leave one more
 abbrev pub settles_in : List Asked → ℕ
-settles_in hand = length hand + puts_in hand
+settles_in hand = length hand + put_count hand
 
 -- what it takes to settle all that the actor has, and what its attempt would hand back
 abbrev pub owed_by : Acting → ℕ
@@ -35,7 +35,7 @@ owed_by a = settles_in (owed a.wiring a.actor a.state)
 
 -- the admissions that are left in this run, a put may add an Interleave
 abbrev pub admissions_left : State → ℕ
-admissions_left state = 3 * (most_admitted - state.admitted) + (length state.domains + 2 * puts_in state.hand)
+admissions_left state = 3 * (most_admitted - state.admitted) + (length state.domains + 2 * put_count state.hand)
 
 -- more than what is left of the admissions where none has begun
 abbrev pub admissions_most : ℕ

@@ -1,6 +1,7 @@
 //! The value of an expression over the values of a task.
 
 ghost use Rattle.std.specs.Prelude.{◌≡◌, ◌≤◌, sum};
+ghost use Rattle.ccr_base.specs.Bounds.{most_value_numbers};
 ghost use Rattle.ccr_handler.specs.Evaluating.{value_of, number_at, longest, sum_at, sum_of, part_of};
 
 use ccr_base::{Expr, MAX_VALUE_NUMBERS, Value};
@@ -18,7 +19,7 @@ fn number_at(value: &Value, index: usize) -> u64
 /// How many numbers the longest value has.
 fn longest(values: &[Value]) -> usize
     ensures most { result ≡ longest values.now }
-    ensures few { result ≤ 8 }
+    ensures few { result ≤ most_value_numbers }
 {
     let mut most = 0;
     for value in values {

@@ -1,5 +1,5 @@
 -- How the lanes of a port stay what they are while messages come and go.
-use Rattle.std.proofs.Common.{◌≡◌, ℕ, zero, suc, ◌+◌, ◌^◌, ◌<◌, ◌≤◌, Bool, true, false, not, ◌==◌, ◌&&◌, ◌||◌, List, [], ◌∷◌, ◌++◌, length, map, take, drop, Some, refl, sym, ap, ◌∙◌, arith, add-one}
+use Rattle.std.proofs.Common.{◌≡◌, ℕ, zero, suc, ◌+◌, ◌^◌, ◌<◌, ◌≤◌, Bool, true, false, not, ◌==◌, ◌&&◌, ◌||◌, List, [], ◌∷◌, ◌++◌, length, map, take, drop, Some, refl, sym, ap, ◌∙◌, arith, add-one, length-take}
 use Rattle.std.specs.Prelude.{if◌then◌else◌, nat_lt}
 use Rattle.std.specs.List.{slice_get, list_all}
 use Rattle.std.proofs.Math.ListN.{set, get_or}
@@ -186,16 +186,10 @@ entered-pred key value lane = of_test (holds lane.pred value)
     of_test true = refl
     of_test false = refl
 
-pub length-take_at_most : {X : Type 0} (n : ℕ) (xs : List X) → length (take n xs) ≤ n
-length-take_at_most zero [] = omega arith
-length-take_at_most zero (x ∷ xs) = omega arith
-length-take_at_most (suc n) [] = omega arith
-length-take_at_most (suc n) (x ∷ xs) = omega (arith, length-take_at_most n xs)
-
 module _ (es : List (ℕ × Msg)) (index key : ℕ) (stand : Stands es index key) (apart : are_apart (keys_of es) ≡ true) (lane : LaneState) where
   pub can-enter-next : (pred : Pred) → lane.pred ≡ pred → lane.keys ≡ fitting_keys pred (take index es) → key < lane.room → index + 1 < 2 ^ 32 → can_enter key lane ≡ true
   can-enter-next pred same keys room few =
-      let short : length (take index es) + 1 < 2 ^ 32 = omega (arith, length-take_at_most index es) in
+      let short : length (take index es) + 1 < 2 ^ 32 = omega (arith, length-take index es) in
       let roomy : have_room key (lane ∷ []) ≡ true = ap (λ b. b && true) (lt-ltb key lane.room room) in
       (both (can_enter key lane) true (can-enter-all (take index es) key (stand.before apart) short (lane ∷ []) (keys ∙ ap (λ p. fitting_keys p (take index es)) (sym same), tt) roomy)).0
 

@@ -1,4 +1,4 @@
-//! An entry of a place's history, with its place.
+//! Acts: what the history of a place holds, with the number of the place.
 
 /// What a seat did at a place.
 #[derive(Drop)]

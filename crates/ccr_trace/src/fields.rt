@@ -2,6 +2,7 @@
 
 ghost use Rattle.std.specs.Prelude.{◌≡◌, Some, None, IfSome, IfNone};
 ghost use Rattle.std.specs.Option.{option_map};
+ghost use Rattle.ccr_base.specs.Bounds.{most_value_numbers};
 ghost use Rattle.ccr_trace.specs.Forms.{field};
 ghost use Rattle.ccr_trace.specs.Fields.{exact_number, short_number, values_in, value_of, task_in, task_of, script_in, answer_in, message_of, spot_with, spot_of};
 
@@ -43,7 +44,7 @@ fn single_of(word: &[u8]) -> Option<Value>
 
 /// 1 to 8 numbers joined by commas.
 fn several_of(word: &[u8]) -> Option<Value>
-    ensures { result ≡ values_in 8 word.now }
+    ensures { result ≡ values_in most_value_numbers word.now }
 {
     let mut numbers = [0; MAX_VALUE_NUMBERS];
     let mut count = 0;

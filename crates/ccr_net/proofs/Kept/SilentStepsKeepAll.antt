@@ -1,5 +1,5 @@
 -- Steps that show nothing: what is settled, bookings, claims, refusals, rounds and the meter.
-use Rattle.std.proofs.Common.{◌⊎◌, inl, inr, ◌≡◌, ◌≢◌, ◌≤◌, ◌<◌, ℕ, zero, suc, ◌^◌, Bool, true, false, List, [], ◌∷◌, ◌++◌, length, take, Option, Some, None, refl, sym, arith, ap, ◌∙◌, subst, append-nil}
+use Rattle.std.proofs.Common.{◌⊎◌, inl, inr, ◌≡◌, ◌≢◌, ◌≤◌, ◌<◌, ℕ, zero, suc, ◌^◌, min, Bool, true, false, List, [], ◌∷◌, ◌++◌, length, Option, Some, None, refl, sym, arith, ap, ◌∙◌, subst, append-nil, length-take, length-take-le}
 use Rattle.std.specs.Prelude.{◌==◌, if◌then◌else◌, nat_lt, nat_le}
 use Rattle.std.specs.Option.{option_map_or}
 use Rattle.std.proofs.lemmas.Bool.Decides.{nat_tests}
@@ -433,11 +433,6 @@ module _ (w : Parts) (n : ℕ) (lacks : Lacks) (es : List Entry) (e : Entry) (lo
 
 -- ---- what a claim of a free port gets
 
-length-take : {X : Type 0} (k : ℕ) (xs : List X) → (length (take k xs) ≤ k) × (length (take k xs) ≤ length xs) × (k ≤ length xs → length (take k xs) ≡ k) × (length xs ≤ k → length (take k xs) ≡ length xs)
-length-take zero xs = (omega arith, omega arith, λ le. refl, λ le. omega arith)
-length-take (suc k) [] = (omega arith, omega arith, λ le. absurd (omega arith), λ le. refl)
-length-take (suc k) (x ∷ xs) = let more = length-take k xs in (let a = more.0 in omega arith, let b = more.1 in omega arith, λ le. (let c = more.2 (omega arith) in omega arith), λ le. (let d = more.3 (omega arith) in omega arith))
-
 pub record GotFacts (slot : Slot) (items : List Msg) (k : ℕ) : Type 0 where
   pub whole : length (first_fitting k slot.pred items) ≡ k
   pub least : slot.least ≤ k
@@ -448,15 +443,10 @@ pub got_facts : (slot : Slot) (items : List Msg) → is_choosable slot items ≡
 got_facts slot items choosable even =
     let low : slot.least ≤ length (fitting slot.pred items) = grind (arith, nat_tests, choosable) in
     let order : slot.least ≤ slot.most = grind (arith, nat_tests, even) in
-    let facts = length-take slot.most (fitting slot.pred items) in
-    let a = facts.0 in let b = facts.1 in
+    let count : length (first_fitting slot.most slot.pred items) ≡ min slot.most (length (fitting slot.pred items)) = length-take slot.most (fitting slot.pred items) in
     record {
-      whole = (length-take (length (first_fitting slot.most slot.pred items)) (fitting slot.pred items)).2 b;
-      least = by (nat_le slot.most (length (fitting slot.pred items))) refl low order facts.2 facts.3;
-      most = a;
-      fits = b;
+      whole = length-take-le (length (first_fitting slot.most slot.pred items)) (fitting slot.pred items) (omega (arith, count));
+      least = omega (arith, count, low, order);
+      most = omega (arith, count);
+      fits = omega (arith, count);
     }
-  where
-    by : (c : Bool) → nat_le slot.most (length (fitting slot.pred items)) ≡ c → slot.least ≤ length (fitting slot.pred items) → slot.least ≤ slot.most → (slot.most ≤ length (fitting slot.pred items) → length (first_fitting slot.most slot.pred items) ≡ slot.most) → (length (fitting slot.pred items) ≤ slot.most → length (first_fitting slot.most slot.pred items) ≡ length (fitting slot.pred items)) → slot.least ≤ length (first_fitting slot.most slot.pred items)
-    by true e low order all some = let le : slot.most ≤ length (fitting slot.pred items) = grind (arith, nat_tests, e) in let is = all le in omega (arith, is, order)
-    by false e low order all some = let le : length (fitting slot.pred items) ≤ slot.most = grind (arith, nat_tests, e) in let is = some le in omega (arith, is, low)
