@@ -2,7 +2,7 @@
 use Rattle.std.proofs.Common.{◌≡◌, ◌⊎◌, ◌≤◌, ◌<◌, ℕ, suc, ◌+◌, Bool, true, false, List, [], ◌∷◌, ◌++◌, length, take, drop, Option, Some, None, Ok, Err, refl, sym, ap, subst, cond, arith, inl, inr, ◌∙◌}
 use Rattle.std.specs.Prelude.{◌↔◌}
 use Rattle.std.proofs.lemmas.Bool.{le-leb, lt-leb}
-use Rattle.std.proofs.lemmas.List.{map-append, take-append-le, drop-append-le, append-nil, length_push}
+use Rattle.std.proofs.lemmas.List.{map-append, take-append-le, drop-append-le, append-nil, length_push, take_all}
 use Rattle.std.proofs.lemmas.Grind.{fold-append}
 use Rattle.std.proofs.Math.Seq.{drop-length}
 use Rattle.ccr_base.specs.declared.list.OutOfMemory.{OutOfMemory}
@@ -160,15 +160,11 @@ state_more wiring actor (Some n) given reply within =
     ∙ (after-more wiring actor (from (take n given)) (drop n given) reply
     ∙ ap (λ (s : State). after wiring actor s reply) (sym (short-state wiring actor n given within)))))
 
-take-all : (given : List Reply) → take (length given) given ≡ given
-take-all [] = refl
-take-all (reply ∷ given) = ap (λ (g : List Reply). reply ∷ g) (take-all given)
-
 -- short from here on
 pub state_short : (wiring : Parts) (actor : ℕ) (given : List Reply) → state_after wiring actor (Some (length given)) given ≡ shorten wiring actor (state_after wiring actor None given)
 state_short wiring actor given =
     short-state wiring actor (length given) given (omega arith)
-    ∙ (ap (λ (g : List Reply). after_all wiring actor (shorten wiring actor (after_all wiring actor (start wiring actor) g)) (drop (length given) given)) (take-all given)
+    ∙ (ap (λ (g : List Reply). after_all wiring actor (shorten wiring actor (after_all wiring actor (start wiring actor) g)) (drop (length given) given)) (take_all (length given) given (omega arith))
     ∙ ap (λ (g : List Reply). after_all wiring actor (shorten wiring actor (after_all wiring actor (start wiring actor) given)) g) (drop-length given))
 
 -- ---- an actor follows
@@ -177,7 +173,7 @@ replies-length : (steps : List Step) → length (replies_of steps) ≡ length st
 replies-length [] = refl
 replies-length (step ∷ steps) = ap (λ n. suc n) (replies-length steps)
 
-replies-more : (steps : List Step) (step : Step) → replies_of (steps ++ step ∷ []) ≡ replies_of steps ++ step.reply ∷ []
+pub replies-more : (steps : List Step) (step : Step) → replies_of (steps ++ step ∷ []) ≡ replies_of steps ++ step.reply ∷ []
 replies-more steps step = map-append (λ (s : Step). s.reply) steps (step ∷ [])
 
 within-steps : (lack : Option ℕ) (steps : List Step) (short : Bool) → IsShortFrom lack steps short → IsWithin lack (replies_of steps)

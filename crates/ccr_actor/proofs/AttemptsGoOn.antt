@@ -21,7 +21,7 @@ use Rattle.ccr_claim.specs.Asks.{MaybeReply, due_of, fits, may_come}
 use Rattle.ccr_claim.specs.Plans.{slots_in}
 use Rattle.ccr_claim.specs.Attempts.{AttemptState, Phase, booking, claiming, had_in, attempt_ask, release, claimed, progress_of, IsAfter}
 use Rattle.ccr_actor.specs.Actors.{State, name_at, after_attempt}
-use Rattle.ccr_actor.specs.Courses.{HasEnded, RunsAt, owed, heard, IsHeard}
+use Rattle.ccr_actor.specs.Courses.{HasEnded, RunsAt, owing, heard, IsHeard}
 use Rattle.ccr_actor.specs.Plans.{plan_of}
 use Rattle.ccr_claim.proofs.AttemptHandsSettle.{release_settles, firing_settles}
 
@@ -106,7 +106,7 @@ Heard wiring actor state spot more answer new = IsHeard wiring actor (name_at ac
 gone : (plan : ClaimPlan) (task : TaskId) (phase : Phase) (why : Why) (due : Due) → HasEnded (record { plan = plan; task = task; hand = release plan task phase; phase = booking; ended = Some (outcomes.GaveUp why); due = due })
 gone plan task phase why due = record { phase = refl; ended = refl; hand = release_settles plan task phase }
 
-owes : (wiring : Parts) (actor : ℕ) (state : State) (spot : Spot) (more : List Spot) → state.hand ≡ [] → state.spots ≡ spot ∷ more → release (plan_of wiring spot) (name_at actor state) state.phase ≡ owed wiring actor state
+owes : (wiring : Parts) (actor : ℕ) (state : State) (spot : Spot) (more : List Spot) → state.hand ≡ [] → state.spots ≡ spot ∷ more → release (plan_of wiring spot) (name_at actor state) state.phase ≡ owing wiring actor state
 owes wiring actor state spot more none at = rw (none, at) refl
 
 module _ (wiring : Parts) (actor : ℕ) (state : State) (spot : Spot) (more : List Spot) (due : Due) (none : state.hand ≡ []) (at : state.spots ≡ spot ∷ more) where

@@ -1,6 +1,6 @@
 pub mod HandsSettle
 mod Plays
-mod AttemptsGoOn
+pub mod AttemptsGoOn
 pub mod StepsOfAttempts
 mod StepsOfWork
 pub mod Bounds

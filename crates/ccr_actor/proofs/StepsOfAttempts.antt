@@ -17,7 +17,7 @@ use Rattle.ccr_actor.specs.declared.course.Course.{Course}
 use Rattle.ccr_actor.specs.declared.course.Part.TheVariants as parts
 use Rattle.ccr_actor.specs.Acting.{kept}
 use Rattle.ccr_actor.specs.Actors.{State, turn_of, drive, after_in, admit_too, settled, in_attempt, end_attempt}
-use Rattle.ccr_actor.specs.Courses.{IsUnderWay, target, dropped_by, phase_of, RunsAt, Runs, IsPast, IsHeard, IsStep, owed, heard, fired_on, state_of, hand_of, due_at, due_next}
+use Rattle.ccr_actor.specs.Courses.{IsUnderWay, target, dropped_by, phase_of, RunsAt, Runs, IsPast, IsHeard, IsStep, owing, heard, fired_on, state_of, hand_of, due_at, due_next}
 use Rattle.ccr_actor.proofs.AttemptsGoOn.{heard_at}
 
 -- nothing is owed where no attempt is under way
@@ -25,7 +25,7 @@ pub none-owed : (wiring : Parts) (actor : ℕ) (state : State) (spots : List Spo
 none-owed wiring actor state [] is = refl
 none-owed wiring actor state (spot ∷ more) is = rw is refl
 
-pub owed-hand : (wiring : Parts) (actor : ℕ) (state : State) → state.phase ≡ booking → owed wiring actor state ≡ state.hand
+pub owed-hand : (wiring : Parts) (actor : ℕ) (state : State) → state.phase ≡ booking → owing wiring actor state ≡ state.hand
 owed-hand wiring actor state is = rw (none-owed wiring actor state state.spots is) (append-nil state.hand)
 
 -- two states in one phase of one attempt owe alike for it
@@ -36,7 +36,7 @@ same-attempt wiring actor one two (spot ∷ more) phase attempt = rw (phase, att
 -- a step that reaches this state, or has its hand
 pub ends : {E : Type 0} (result : Result E OutOfMemory) (wiring : Parts) (actor : ℕ) (target wanted new : State) → target ≡ wanted → wanted.phase ≡ booking → OnOk result (new ≡ wanted) → OnErr result (new.hand ≡ wanted.hand) → IsStep result wiring actor target new
 ends (Ok done) wiring actor target wanted new is phase ok err = ap kept (ok ∙ sym is)
-ends (Err refused) wiring actor target wanted new is phase ok err = err ∙ (sym (owed-hand wiring actor wanted phase) ∙ ap (owed wiring actor) (sym is))
+ends (Err refused) wiring actor target wanted new is phase ok err = err ∙ (sym (owed-hand wiring actor wanted phase) ∙ ap (owing wiring actor) (sym is))
 
 -- an attempt that runs is at a first spot
 pub first_spot : (wiring : Parts) (name : TaskId) (spots : List Spot) (attempt : Option AttemptState) → Runs wiring name spots attempt → (spot : Spot) × (more : List Spot) × (spots ≡ spot ∷ more)

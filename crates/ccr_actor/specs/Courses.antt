@@ -130,8 +130,8 @@ pub record IsUnderWay (course : Course) : Type 0 where
   pub count : course.count < 2 ^ 32
 
 -- what the actor owes where it finds no memory
-abbrev pub owed : Parts → ℕ → State → List Asked
-owed wiring actor state = state.hand ++ in_attempt wiring actor state state.spots
+abbrev pub owing : Parts → ℕ → State → List Asked
+owing wiring actor state = state.hand ++ in_attempt wiring actor state state.spots
 
 -- the state after an answer to the attempt's ask; running out of memory changes nothing yet
 abbrev pub heard : Parts → ℕ → State → Spot → List Spot → MaybeReply → State
@@ -158,7 +158,7 @@ pub record EndsSo (target wanted : State) (attempt : AttemptState) : Type 0 wher
 
 -- it was given up out of memory
 pub record EndsOwing (wiring : Parts) (actor : ℕ) (target : State) (attempt : AttemptState) : Type 0 where
-  pub owes : attempt.hand ≡ owed wiring actor target
+  pub owes : attempt.hand ≡ owing wiring actor target
   pub ended : HasEnded attempt
 
 -- whether memory ran out
@@ -182,7 +182,7 @@ IsHeard wiring actor name state spot more target (progresses.GaveUp why) attempt
 -- the state is this one as far as it counts, or what it owes is in hand
 abbrev pub IsStep : {E : Type 0} → Result E OutOfMemory → Parts → ℕ → State → State → Type 0
 IsStep (Ok done) wiring actor target new = kept new ≡ kept target
-IsStep (Err refused) wiring actor target new = new.hand ≡ owed wiring actor target
+IsStep (Err refused) wiring actor target new = new.hand ≡ owing wiring actor target
 
 -- it is this state as far as it counts; or that wasn't short, and it is short of it now
 abbrev pub IsThereOrShort : Parts → ℕ → State → State → Type 0

@@ -14,6 +14,10 @@ pub or_assoc : (a b c : Bool) → a || (b || c) ≡ (a || b) || c
 or_assoc true b c = refl
 or_assoc false b c = refl
 
+-- not one, nor anything else
+pub none_or_false : (a : Bool) → a ≡ false → a || false ≡ false
+none_or_false a none = rw none refl
+
 -- one, or nothing else
 pub or_none : (a : Bool) → a || false ≡ true → a ≡ true
 or_none true is = refl

@@ -6,3 +6,4 @@ pub mod Texts
 pub mod Indices
 pub mod Chosen
 pub mod Loops
+pub mod SameNames

@@ -1,6 +1,6 @@
 -- Of a list: what its prefix is, what each of it passes, what holds of each of it, what is made of it, and how long it is.
-use Rattle.std.proofs.Common.{◌≡◌, ℕ, zero, suc, ◌+◌, ◌<◌, Bool, true, false, List, [], ◌∷◌, ◌++◌, length, take, flat_map, Some, ap, ◌∙◌, refl, arith, append-nil}
-use Rattle.std.specs.List.{All, list_all, list_any, slice_get}
+use Rattle.std.proofs.Common.{◌≡◌, ℕ, zero, suc, ◌+◌, ◌<◌, Bool, true, false, ◌||◌, List, [], ◌∷◌, ◌++◌, length, map, take, flat_map, Some, ap, ◌∙◌, refl, arith, append-nil}
+use Rattle.std.specs.List.{All, AllByRecursion, list_all, list_any, slice_get}
 use Rattle.std.proofs.Math.Seq.{take-append_seam}
 use Rattle.std.proofs.lemmas.Bool.{and_parts as both}
 use Rattle.ccr_base.specs.Lists.{Each}
@@ -49,6 +49,11 @@ none_of_both p xs ys first second = list_any-append p xs ys ∙ rw (first, secon
 pub any_same : {X : Type 0} (p q : X → Bool) (xs : List X) → ((x : X) → p x ≡ q x) → list_any p xs ≡ list_any q xs
 any_same p q [] same = refl
 any_same p q (x ∷ xs) same = rw (same x, any_same p q xs same) refl
+
+-- of what is made of a list none passes, so no item passes by what is made of it
+pub none_mapped : {X Y : Type 0} (test : Y → Bool) (f : X → Y) (xs : List X) → AllByRecursion (λ y. test y ≡ false) (map f xs) → list_any (λ x. test (f x)) xs ≡ false
+none_mapped test f [] none = refl
+none_mapped test f (x ∷ xs) none = λ i. none.0 i || none_mapped test f xs none.1 i
 
 -- what is made of a list and one more
 pub flat_push : {X Y : Type 0} (f : X → List Y) (xs : List X) (x : X) → flat_map f (xs ++ x ∷ []) ≡ flat_map f xs ++ f x

@@ -1,9 +1,10 @@
 -- What is known of an option by what is made of it, and of a list by what stands at an index.
 use Rattle.std.proofs.Common.{◌≡◌, ◌⊎◌, inl, inr, ℕ, zero, suc, ◌<◌, ◌≤◌, Bool, true, false, not, cond, List, [], ◌∷◌, ◌++◌, length, Option, Some, None, refl, ap, arith}
-use Rattle.std.specs.Prelude.{is_some, option_map, option_and_then, IfSome}
+use Rattle.std.specs.Prelude.{is_some, option_map, option_and_then, IfSome, nat_lt}
 use Rattle.std.specs.List.{slice_get}
 use Rattle.std.specs.Option.{option_map_or, option_or}
 pub use Rattle.std.proofs.lemmas.Option.{slice_get_within as some-below}
+use Rattle.std.proofs.lemmas.Bool.Decides.{nat_tests}
 
 pub no_some : {X : Type 0} (o : Option X) (x : X) → o ≡ None → o ≡ Some x → ⊥
 no_some o x none is = absurd (cc)
@@ -70,6 +71,18 @@ pub get-some : {X : Type 0} (xs : List X) (n : ℕ) → n < length xs → (x : X
 get-some [] n low = absurd (omega (arith, low))
 get-some (x ∷ xs) zero low = (x, refl)
 get-some (x ∷ xs) (suc n) low = get-some xs n (omega (arith, low))
+
+-- what stands before one more stays where it is
+pub get-before : {X : Type 0} (xs : List X) (x : X) (n : ℕ) → n < length xs → slice_get (xs ++ x ∷ []) n ≡ slice_get xs n
+get-before [] x n low = absurd (omega (arith, low))
+get-before (y ∷ xs) x zero low = refl
+get-before (y ∷ xs) x (suc n) low = get-before xs x n (omega (arith, low))
+
+-- something stands at each index below the length, and at no other
+pub is_some-get : {X : Type 0} (xs : List X) (k : ℕ) → is_some (slice_get xs k) ≡ nat_lt k (length xs)
+is_some-get [] k = grind (arith, nat_tests)
+is_some-get (x ∷ xs) zero = grind (arith, nat_tests)
+is_some-get (x ∷ xs) (suc k) = grind (arith, nat_tests, is_some-get xs k)
 
 -- what was put behind all others is the last
 pub get-last : {X : Type 0} (xs now : List X) (n : ℕ) (x : X) → n ≡ length xs → now ≡ xs ++ x ∷ [] → slice_get now n ≡ Some x

@@ -22,6 +22,7 @@ pub struct Value {
 impl Model for Value {
     ghost use Rattle.std.specs.Prelude.{ℕ, ◌-◌, ◌++◌, List, length, take, replicate};
     ghost use Rattle.ccr_base.specs.Padding.{IsPadded, padded-taken, counted};
+    ghost use Rattle.ccr_base.specs.Bounds.{most_value_numbers};
 
     ghost Value = { List ℕ };
 
@@ -29,7 +30,7 @@ impl Model for Value {
 
     ghost invariant = { λ v. IsPadded v.count v.numbers };
 
-    ghost inverse = { λ ns. record { numbers = ns ++ replicate (8 - length ns) 0; count = length ns } };
+    ghost inverse = { λ ns. record { numbers = ns ++ replicate (most_value_numbers - length ns) 0; count = length ns } };
 
     ghost inverse_ok = { λ v h i. record { numbers = padded-taken v.count v.numbers h i; count = counted v.count v.numbers h i } };
 }

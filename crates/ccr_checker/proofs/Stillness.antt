@@ -1,10 +1,11 @@
 -- Something is left exactly where an event comes first.
-use Rattle.std.proofs.Common.{◌≡◌, ℕ, zero, suc, ◌+◌, Bool, true, false, not, ◌&&◌, ◌||◌, List, [], ◌∷◌, length, Option, Some, None, refl, sym, arith}
-use Rattle.std.specs.Prelude.{if◌then◌else◌, find, nat_lt, is_some}
+use Rattle.std.proofs.Common.{◌≡◌, ℕ, ◌+◌, Bool, true, false, not, ◌&&◌, ◌||◌, List, [], ◌∷◌, Option, Some, None, refl, sym, arith}
+use Rattle.std.specs.Prelude.{if◌then◌else◌, find, is_some}
 use Rattle.std.specs.List.{slice_get, list_any}
 use Rattle.std.proofs.lemmas.Bool.Decides.{nat_tests}
 use Rattle.ccr_base.specs.declared.names.TaskId.{TaskId}
 use Rattle.ccr_base.specs.declared.names.Spot.{Spot}
+use Rattle.ccr_base.proofs.Options.{is_some-get}
 use Rattle.ccr_wiring.specs.declared.parts.Parts.{Parts}
 use Rattle.ccr_wiring.specs.declared.parts.PosterPart.{PosterPart}
 use Rattle.ccr_wiring.specs.declared.parts.ArbiterPart.{ArbiterPart}
@@ -22,11 +23,6 @@ use Rattle.ccr_checker.specs.Quiet.{AllowsSome, MeansQuiet}
 use Rattle.ccr_model.specs.Enough.{can_fire}
 use Rattle.ccr_model.proofs.CanFire.{is_some-or, is_some-map, some_fire_at}
 use Rattle.ccr_checker.specs.Left.{has_line_left, can_admit, has_admission, has_queued, is_still}
-
-is_some-get : {X : Type 0} (xs : List X) (k : ℕ) → is_some (slice_get xs k) ≡ nat_lt k (length xs)
-is_some-get [] k = grind (arith, nat_tests)
-is_some-get (x ∷ xs) zero = grind (arith, nat_tests)
-is_some-get (x ∷ xs) (suc k) = grind (arith, nat_tests, is_some-get xs k)
 
 is_some-find : {X : Type 0} (p : X → Bool) (xs : List X) → is_some (find p xs) ≡ list_any p xs
 is_some-find p [] = refl

@@ -37,6 +37,6 @@ exit_illegal = 7
 abbrev pub exit_too_long : ℕ
 exit_too_long = 8
 
--- reading failed, writing failed, or there was no memory
+-- reading failed, writing failed, or the process was out of memory
 abbrev pub failures : List ℕ
 failures = exit_read_fault ∷ exit_write_fault ∷ exit_no_memory ∷ []

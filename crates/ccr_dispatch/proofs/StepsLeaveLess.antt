@@ -18,7 +18,7 @@ use Rattle.ccr_actor.proofs.TurnsTellStates.{IsTurnOf, turn_is}
 use Rattle.ccr_claim.specs.Attempts.{attempt_ask}
 use Rattle.ccr_actor.specs.Acting.{Acting, due_in, kept, kept_if, at_state, sent, next, answered, shortened, IsAfter}
 use Rattle.ccr_actor.specs.Actors.{State, Turn, settle, admit, drive, go_on, stop, turn, name_at, ask_in, work_ask, settled, after_admit, after_attempt, after_work, after_in, after, in_attempt, shorten, state_after}
-use Rattle.ccr_actor.specs.Courses.{owed}
+use Rattle.ccr_actor.specs.Courses.{owing}
 use Rattle.ccr_actor.specs.Plans.{plan_of}
 use Rattle.ccr_actor.specs.Within.{IsWithin}
 use Rattle.ccr_actor.proofs.WhatCountsIsKept.{after_short, kept_hand, kept_short, kept_whole}
@@ -187,7 +187,7 @@ less_left a new one (Err refused) asks none may so valid old_in new_in =
 -- no more is left behind the hand, and less is owed
 pub record IsFallen (wiring : Parts) (actor : ℕ) (state new : State) : Type 0 where
   pub left : rank wiring new ≤ rank wiring state
-  pub owed : settles_in (owed wiring actor new) < settles_in (owed wiring actor state)
+  pub owed : settles_in (owing wiring actor new) < settles_in (owing wiring actor state)
 
 settled-in : (wiring : Parts) (actor : ℕ) (state : State) (t : Turn) (one : Asked) (reply : Reply) → IsTurnOf state t → (state.hand ≡ [] → ⊥) → ask_in wiring actor state t ≡ Some one → fits (due_of one.ask) reply ≡ true → IsFallen wiring actor state (after_in wiring actor state t reply)
 settled-in wiring actor state (settle first more) one reply at some asks fit =
@@ -205,14 +205,14 @@ settled-in wiring actor state (drive spot more) one reply at some asks fit = abs
 settled-in wiring actor state go_on one reply at some asks fit = absurd (some at.1)
 settled-in wiring actor state stop one reply at some asks fit = absurd (some at)
 
-bare-owed : (b : Bool) (wiring : Parts) (actor : ℕ) (state : State) → settles_in (owed wiring actor (kept_if b state)) ≤ settles_in (owed wiring actor state)
+bare-owed : (b : Bool) (wiring : Parts) (actor : ℕ) (state : State) → settles_in (owing wiring actor (kept_if b state)) ≤ settles_in (owing wiring actor state)
 bare-owed true wiring actor state = (let one = settles_append state.hand [] in let two = settles_append state.hand (in_attempt wiring actor state state.spots) in omega (arith, one, two))
 bare-owed false wiring actor state = omega arith
 
-kept-owed : (wiring : Parts) (actor : ℕ) (state : State) → settles_in (owed wiring actor (kept state)) ≤ settles_in (owed wiring actor state)
+kept-owed : (wiring : Parts) (actor : ℕ) (state : State) → settles_in (owing wiring actor (kept state)) ≤ settles_in (owing wiring actor state)
 kept-owed wiring actor state = bare-owed state.is_short wiring actor state
 
-owed-seen : (a new : Acting) (state : State) → new ≡ as-kept a state → owed_by new ≡ settles_in (owed a.wiring a.actor (kept state))
+owed-seen : (a new : Acting) (state : State) → new ≡ as-kept a state → owed_by new ≡ settles_in (owing a.wiring a.actor (kept state))
 owed-seen a new state is = ap owed_by is
 
 rank-seen : (b : Bool) (a new : Acting) (state : State) → a.state.is_short ≡ b → state.is_short ≡ a.state.is_short → new ≡ as-kept a state → rank a.wiring state ≤ rank a.wiring a.state → steps_left new ≤ steps_left a
@@ -248,7 +248,7 @@ settled_less a new one (Ok reply) asks some all may so = by-so so
         let less = fallen.owed in
         let kept_less = kept-owed a.wiring a.actor state in
         let seen = owed-seen a new (shorten a.wiring a.actor (kept state)) is in
-        let bare = settles_append (owed a.wiring a.actor (kept state)) [] in
+        let bare = settles_append (owing a.wiring a.actor (kept state)) [] in
         let none = left-short new (ap (λ (x : Acting). x.state.is_short) is) in
         record { owed = omega (arith, less, kept_less, seen, bare); left = omega (arith, none) }
 settled_less a new one (Err refused) asks some all may so =

@@ -9,7 +9,7 @@ use Rattle.ccr_claim.specs.declared.asks.Asked.{Asked}
 use Rattle.ccr_claim.specs.Attempts.{Phase, booking, claiming}
 use Rattle.ccr_actor.specs.Acting.{Acting}
 use Rattle.ccr_actor.specs.Actors.{most_admitted, most_fired, most_taken, State, Work, lines, round, taking, playing, posting, shedding, resting, spots_left}
-use Rattle.ccr_actor.specs.Courses.{owed}
+use Rattle.ccr_actor.specs.Courses.{owing}
 
 -- ---- what is in hand
 
@@ -29,7 +29,7 @@ settles_in hand = length hand + put_count hand
 
 -- what it takes to settle all that the actor has, and what its attempt would hand back
 abbrev pub owed_by : Acting → ℕ
-owed_by a = settles_in (owed a.wiring a.actor a.state)
+owed_by a = settles_in (owing a.wiring a.actor a.state)
 
 -- ---- what comes behind that
 

@@ -15,7 +15,7 @@ use Rattle.ccr_ledger.specs.Books.{Books}
 use Rattle.ccr_ledger.specs.Asked.{room, queue_has_room}
 use Rattle.ccr_engine.specs.Ready.{IsLeastFirst}
 use Rattle.ccr_engine.specs.Numbered.{passes_at}
-use Rattle.ccr_engine.specs.Blocked.{queue_at, is_on, is_blocked, AreBlocked, Blocks}
+use Rattle.ccr_engine.specs.Blocked.{branch_queue, is_on, is_blocked, AreBlocked, Blocks}
 
 -- which queue an index is blocked at
 pub row_within : (rows : List (List ℕ)) (q k : ℕ) → has_number (row rows q) k ≡ true → q < length rows
@@ -139,7 +139,7 @@ module _ (old new : List (List ℕ)) (q : ℕ) (others : new ≡ with_row old q 
     pub entered_blocked : is_blocked new index ≡ true
     entered_blocked = row_blocked new q index (members index ∙ or_left (index == index) (has_number (row old q) index) (eq-self index))
 
-    pub blocks_entered : (w : Parts) (b : Books) (s : Spot) → AreBlocked w old → slice_get (spots w) index ≡ Some s → queue_at w s ≡ Some q → room w b s ≡ false → IsLeastFirst (row new q) → Blocks w b old new
+    pub blocks_entered : (w : Parts) (b : Books) (s : Spot) → AreBlocked w old → slice_get (spots w) index ≡ Some s → branch_queue w s ≡ Some q → room w b s ≡ false → IsLeastFirst (row new q) → Blocks w b old new
     blocks_entered w b s are at on full least =
         let here : passes_at (is_on w q) (spots w) index ≡ true = rw (at, on) (eq-self q) in
         let lacks : passes_at (room w b) (spots w) index ≡ false = rw at full in

@@ -35,7 +35,7 @@ use Rattle.ccr_base.proofs.Options.{some_of}
 use Rattle.ccr_model.proofs.PostNames.{refused_not}
 use Rattle.ccr_model.proofs.OneMoreEvent.{ever_admitted-push, cut-push}
 use Rattle.ccr_model.proofs.Roots.{placement_of_root}
-use Rattle.ccr_model.proofs.SameNames.{same_task-is, same_task-self}
+use Rattle.ccr_base.proofs.SameNames.{same_task-is, same_task-self}
 use Rattle.ccr_model.proofs.TasksLeft.{has_task-append, filter_on, of_filter}
 use Rattle.ccr_model.proofs.TaskLists.{to_without, filter_append, first_rest, has_oldest, of_one}
 use Rattle.ccr_model.proofs.WhoWasPut.{ArePlaced-legal, placement_by, new_drop}

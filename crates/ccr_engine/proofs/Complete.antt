@@ -1,6 +1,6 @@
 -- Where nothing comes first, the history is complete.
-use Rattle.std.proofs.Common.{◌≡◌, ℕ, suc, ◌+◌, ◌≤◌, Bool, true, false, not, ◌||◌, List, [], ◌∷◌, length, Option, Some, None, refl, arith, subst}
-use Rattle.std.specs.Prelude.{◌==◌, option_map, IfSome}
+use Rattle.std.proofs.Common.{◌≡◌, ℕ, suc, ◌+◌, ◌≤◌, Bool, true, false, not, ◌||◌, List, [], ◌∷◌, length, Some, None, refl, arith, subst}
+use Rattle.std.specs.Prelude.{◌==◌, option_map}
 use Rattle.std.specs.List.{slice_get}
 use Rattle.std.proofs.lemmas.Bool.Decides.{nat_tests}
 use Rattle.ccr_wiring.specs.declared.parts.Parts.{Parts}
@@ -9,10 +9,11 @@ use Rattle.ccr_wiring.specs.Wirings.{spots}
 use Rattle.ccr_model.specs.declared.history.Event.{Event}
 use Rattle.ccr_model.specs.Posts.{posts_of_poster, posts_of_tasks}
 use Rattle.ccr_model.specs.Tasks.{running, count_unfinished}
-use Rattle.ccr_model.specs.Legal.{IsAllowed, IsLegal, IsQuiet, has_shed, are_whole_from, is_complete}
+use Rattle.ccr_model.specs.Legal.{IsLegal, IsQuiet, has_shed, are_whole_from, is_complete}
 use Rattle.ccr_model.specs.Order.{first, post_from, script_post, fire_from, admit_from, put_first, run_task}
 use Rattle.ccr_model.proofs.Allowing.{first_allowed}
 use Rattle.ccr_model.proofs.LegalIsCovered.{IsCovered-legal}
+use Rattle.ccr_model.proofs.QuietAllowsNone.{none_if_quiet}
 use Rattle.ccr_base.proofs.Options.{none_or, none_map, no_head, none-above}
 use Rattle.ccr_laws.proofs.Lines.{ArePosted-legal}
 
@@ -56,13 +57,9 @@ is_complete-first w c h legal is =
     let whole = whole_from h 0 w.posters (λ k i p e at. (let same : k ≡ i = omega arith in subst (λ j. posts_of_poster h j ≤ length p.posts) same (known.whole k p at))) left.lines in
     rw (whole, spent w h legal left.tasks (has_shed h) refl) refl
 
-none_if_quiet : (w : Parts) (h : List Event) (o : Option Event) → IfSome o (IsAllowed w h) → IsQuiet w h → o ≡ None
-none_if_quiet w h None allowed quiet = refl
-none_if_quiet w h (Some e) allowed quiet = absurd (quiet e allowed)
-
 -- where nothing is allowed, nothing comes first
 pub none_first-quiet : (w : Parts) (c : ℕ) (h : List Event) → length w.posters ≤ c → c ≤ 32 → IsLegal w h → IsQuiet w h → first w c h ≡ None
-none_first-quiet w c h high low legal quiet = none_if_quiet w h (first w c h) (first_allowed w c h high low legal) quiet
+none_first-quiet w c h high low legal quiet = none_if_quiet w h quiet (first w c h) (first_allowed w c h high low legal)
 
 -- a legal history after which nothing is allowed is complete: no script has a line left, and where a task was shed the budget is spent
 pub is_complete-quiet : (w : Parts) (h : List Event) → length w.posters ≤ 32 → IsLegal w h → IsQuiet w h → is_complete w h ≡ true

@@ -16,7 +16,7 @@ use Rattle.ccr_model.specs.Legal.{IsAllowed, IsLegal}
 use Rattle.ccr_model.specs.Order.{next_attempt}
 use Rattle.ccr_model.specs.Rules.{needs_no_admission}
 use Rattle.ccr_model.proofs.OneMoreEvent.{fired-fire}
-use Rattle.ccr_model.proofs.SameNames.{same_task-is}
+use Rattle.ccr_base.proofs.SameNames.{same_task-is}
 use Rattle.ccr_model.proofs.FiredTasks.{placement_fired}
 use Rattle.ccr_model.proofs.WhoWasPut.{PutFacts-allowed}
 use Rattle.ccr_model.proofs.AllowedFirings.{firings-other}

@@ -1,5 +1,5 @@
 -- Which tasks may be put after each event.
-use Rattle.std.proofs.Common.{◌≡◌, ◌∙◌, ℕ, Bool, true, false, not, ◌&&◌, ◌||◌, List, [], ◌∷◌, ◌++◌, Option, refl, sym, subst, arith, append-nil}
+use Rattle.std.proofs.Common.{◌≡◌, ℕ, Bool, true, false, not, ◌&&◌, ◌||◌, List, [], ◌∷◌, ◌++◌, Option, refl, sym, subst, arith, append-nil}
 use Rattle.std.specs.Option.{option_map_or}
 use Rattle.std.proofs.lemmas.Grind.{common_steps}
 use Rattle.ccr_base.specs.declared.names.TaskId.{TaskId}
@@ -8,23 +8,21 @@ use Rattle.ccr_base.specs.declared.names.Spot.{Spot}
 use Rattle.ccr_base.specs.Names.{same_task, has_task}
 use Rattle.ccr_wiring.specs.declared.parts.Parts.{Parts}
 use Rattle.ccr_model.specs.declared.history.Event.{Event}
-use Rattle.ccr_model.specs.declared.history.Event.TheVariants.{Post, Fire, Admit, Put, Start, End}
+use Rattle.ccr_model.specs.declared.history.Event.TheVariants.{Fire, Admit, Put}
 use Rattle.ccr_model.specs.Firings.{firing_of, fired, cut, put, put_by, ever_admitted, admitted_by, spot_of}
-use Rattle.ccr_model.specs.Rules.{may_put, cuts_at, needs_no_admission}
+use Rattle.ccr_model.specs.Rules.{may_put, needs_no_admission}
 use Rattle.ccr_model.specs.Legal.{IsAllowed, IsLegal}
-use Rattle.ccr_model.proofs.OneMoreEvent.{put-push, cut-push, ever_admitted-push, fired-fire}
+use Rattle.ccr_model.proofs.OneMoreEvent.{put-push, cut-push, ever_admitted-push}
 use Rattle.ccr_model.proofs.TasksLeft.{has_task-append}
 use Rattle.ccr_model.proofs.TaskSteps.{firing_named-fire}
 use Rattle.ccr_base.proofs.Booleans.{refuted, no_both, and_false}
-use Rattle.ccr_model.proofs.SameNames.{same_task-is, same_task-self}
+use Rattle.ccr_base.proofs.SameNames.{same_task-is, same_task-self}
 use Rattle.ccr_model.proofs.FiredTasks.{fired_has}
-use Rattle.ccr_model.proofs.LegalParts.{along_legal}
 use Rattle.ccr_model.proofs.ExclusiveRootsAreAlone.{ever_admitted_fired}
-use Rattle.ccr_model.proofs.TaskLists.{of_more, among_left}
 use Rattle.ccr_model.proofs.Allowing.{OneName-legal}
 use Rattle.ccr_model.proofs.WhoWasPut.{ArePlaced-legal}
 use Rattle.ccr_model.proofs.AllowedFirings.{FiresSo, FiresSo-allowed, firing_named-new, firings-other, WaitingFacts, WaitingFacts-waiting, waits_outside}
-use Rattle.ccr_model.proofs.Cutting.{AdmitFacts, AdmitFacts-allowed, CutFacts-legal, waits_unput, cuts_wait}
+use Rattle.ccr_model.proofs.Cutting.{AdmitFacts, AdmitFacts-allowed, CutFacts-legal, waits_unput, cuts_wait, cut_fired}
 
 -- a task that fired before a new one isn't it
 pub other_task : (h : List Event) (t u : TaskId) → has_task (fired h) t ≡ false → has_task (fired h) u ≡ true → same_task t u ≡ false
@@ -69,25 +67,6 @@ may_put-fire w h t s ms cs u legal allowed among =
         let waits = cuts_wait w h s u (subst (λ ts. has_task ts u ≡ true) facts.cuts is) in
         waits_not w h waits.0 u (WaitingFacts-waiting w h waits.0 u (OneName-legal w h legal) waits.1)
 
--- who is cut fired
-cut_fired-step : (w : Parts) (h : List Event) (e : Event) → IsLegal w h → IsAllowed w h e → ((u : TaskId) → has_task (cut h) u ≡ true → has_task (fired h) u ≡ true) → (u : TaskId) → has_task (cut (h ++ e ∷ [])) u ≡ true → has_task (fired (h ++ e ∷ [])) u ≡ true
-cut_fired-step w h (Fire t s ms cs) legal allowed known u among = rw fired-fire (of_more (cut h) (cs ++ []) u (has_task (fired h ++ t ∷ []) u ≡ true) (subst (λ ts. has_task ts u ≡ true) (cut-push h (Fire t s ms cs)) among) (λ old. among_left (fired h) (t ∷ []) u (known u old)) (λ new. among_left (fired h) (t ∷ []) u (of_cut new)))
-  where
-    of_cut : has_task (cs ++ []) u ≡ true → has_task (fired h) u ≡ true
-    of_cut new =
-        let there : has_task (cuts_at w h s) u ≡ true = subst (λ ts. has_task ts u ≡ true) (append-nil cs ∙ (FiresSo-allowed w h t s ms cs allowed).cuts) new in
-        let waits = cuts_wait w h s u there in
-        let facts = WaitingFacts-waiting w h waits.0 u (OneName-legal w h legal) waits.1 in
-        fired_has h u (facts.firing, facts.is_firing)
-cut_fired-step w h (Post m) legal allowed known u among = rw (firings-other h (Post m) refl) (known u (rw (firings-other h (Post m) refl) at among))
-cut_fired-step w h (Admit t) legal allowed known u among = rw (firings-other h (Admit t) refl) (known u (rw (firings-other h (Admit t) refl) at among))
-cut_fired-step w h (Put t d) legal allowed known u among = rw (firings-other h (Put t d) refl) (known u (rw (firings-other h (Put t d) refl) at among))
-cut_fired-step w h (Start t a) legal allowed known u among = rw (firings-other h (Start t a) refl) (known u (rw (firings-other h (Start t a) refl) at among))
-cut_fired-step w h (End t how) legal allowed known u among = rw (firings-other h (End t how) refl) (known u (rw (firings-other h (End t how) refl) at among))
-
-cut_fired : (w : Parts) (h : List Event) → IsLegal w h → (u : TaskId) → has_task (cut h) u ≡ true → has_task (fired h) u ≡ true
-cut_fired w h legal = along_legal w (λ h. (u : TaskId) → has_task (cut h) u ≡ true → has_task (fired h) u ≡ true) (cut_fired-step w) (λ u is. absurd (cc)) h legal
-
 -- a new task was not cut, put or admitted
 unused : (ts : List TaskId) (h : List Event) (t : TaskId) → has_task (fired h) t ≡ false → (has_task ts t ≡ true → has_task (fired h) t ≡ true) → has_task ts t ≡ false
 unused ts h t new named = refuted (has_task ts t) (λ is. no_both (named is) new)
@@ -112,7 +91,7 @@ may_put-new w h t s ms cs legal allowed =
     not_put = unused (put h) h t new (λ is. fired_has h t ((ArePlaced-legal w h legal).all_fired t is))
 
     not_cut : has_task (cut h) t ≡ false
-    not_cut = unused (cut h) h t new (cut_fired w h legal t)
+    not_cut = unused (cut h) h t new (λ is. fired_has h t (cut_fired w h legal t is))
 
     not_ever_admitted : has_task (ever_admitted h) t ≡ false
     not_ever_admitted = unused (ever_admitted h) h t new (λ is. fired_has h t (ever_admitted_fired w h legal t is))

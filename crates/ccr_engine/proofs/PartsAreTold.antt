@@ -25,7 +25,7 @@ use Rattle.ccr_model.specs.Rules.{drop_at}
 use Rattle.ccr_model.specs.Tasks.{waiting, running, is_of_domain, is_for_queue}
 use Rattle.ccr_model.specs.Order.{post_from, next_attempt, fire_at, fire_from, admit_first, admit_from, put_first, run_task, run_with, start_from}
 use Rattle.ccr_base.proofs.Booleans.{neither, refuted, no_both, or_left}
-use Rattle.ccr_model.proofs.SameNames.{same_task-self}
+use Rattle.ccr_base.proofs.SameNames.{same_task-self}
 use Rattle.ccr_ledger.specs.Books.{Books}
 use Rattle.ccr_ledger.specs.Asked.{drops, made_in}
 use Rattle.ccr_engine.specs.Touched.{posts_to, touches, fires_for, touches_domain}

@@ -17,7 +17,7 @@ use Rattle.ccr_model.specs.Rules.{may_put, needs_no_admission}
 use Rattle.ccr_model.specs.Legal.{IsAllowed, IsLegal}
 use Rattle.ccr_model.specs.Consequences.{are_distinct_tasks}
 use Rattle.ccr_model.proofs.OneMoreEvent.{fired-fire}
-use Rattle.ccr_model.proofs.SameNames.{same_task-is, same_task-self}
+use Rattle.ccr_base.proofs.SameNames.{same_task-is, same_task-self}
 use Rattle.ccr_base.proofs.Booleans.{both, not_true, refuted, no_both, or_left, or_right}
 use Rattle.ccr_base.proofs.Options.{some-below, none-above}
 use Rattle.ccr_base.specs.Lists.{has_number}

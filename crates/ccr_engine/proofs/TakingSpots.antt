@@ -18,7 +18,7 @@ use Rattle.ccr_wiring.specs.declared.parts.Parts.{Parts}
 use Rattle.ccr_wiring.specs.Takers.{spots_at, takes_from}
 use Rattle.ccr_wiring.specs.Wirings.{spots}
 use Rattle.ccr_wiring.proofs.Lists.{any_none}
-use Rattle.ccr_model.proofs.SameNames.{same_spot-is}
+use Rattle.ccr_base.proofs.SameNames.{same_spot-is}
 use Rattle.ccr_engine.specs.Indices.{first_index}
 use Rattle.ccr_engine.specs.Numbered.{Gains, passes_at}
 use Rattle.ccr_engine.proofs.Gaining.{gains-both, gains-same}

@@ -14,13 +14,13 @@ use Rattle.ccr_engine.specs.Ready.{IsLeastFirst}
 use Rattle.ccr_engine.specs.Numbered.{passes_at}
 
 -- the queue of a branch; a site has none
-abbrev pub queue_at : Parts → Spot → Option ℕ
-queue_at wiring (Branch branch) = option_map (λ (s : Placement). s.branch.queue) (placement wiring branch)
-queue_at wiring (Site branch site) = None
+abbrev pub branch_queue : Parts → Spot → Option ℕ
+branch_queue wiring (Branch branch) = option_map (λ (s : Placement). s.branch.queue) (placement wiring branch)
+branch_queue wiring (Site branch site) = None
 
 -- whether the spot is a branch on the queue
 abbrev pub is_on : Parts → ℕ → Spot → Bool
-is_on wiring queue spot = option_map_or (λ other. other == queue) (queue_at wiring spot) false
+is_on wiring queue spot = option_map_or (λ other. other == queue) (branch_queue wiring spot) false
 
 -- whether the index is blocked at some queue
 abbrev pub is_blocked : List (List ℕ) → ℕ → Bool

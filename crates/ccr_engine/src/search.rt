@@ -6,7 +6,7 @@ ghost use Rattle.std.specs.Option.{option_map, option_and_then};
 ghost use Rattle.ccr_wiring.specs.Wirings.{spots};
 ghost use Rattle.ccr_ledger.specs.Asked.{room};
 ghost use Rattle.ccr_engine.specs.Numbered.{passes_at};
-ghost use Rattle.ccr_engine.specs.Blocked.{AreBlocked, Blocks, IsFullBefore, is_before, is_blocked, queue_at};
+ghost use Rattle.ccr_engine.specs.Blocked.{AreBlocked, Blocks, IsFullBefore, is_before, is_blocked, branch_queue};
 ghost use Rattle.ccr_engine.specs.Candidates.{AreCandidates, IsFirstOpen, IsLeftInVain, IsNoneBefore, index_of};
 ghost use Rattle.ccr_engine.specs.Parts.{could_fire_in, fire_in, first_fire_in};
 
@@ -26,8 +26,8 @@ pub(crate) struct Found {
 }
 
 /// The queue of a branch; a site has none.
-fn queue_at(wiring: &Wiring, spot: Spot) -> Option<QueueNo>
-    ensures { result ≡ queue_at wiring.now spot }
+fn branch_queue(wiring: &Wiring, spot: Spot) -> Option<QueueNo>
+    ensures { result ≡ branch_queue wiring.now spot }
 {
     match spot {
         Spot::Branch(branch) => match wiring.placement(branch) {
@@ -122,7 +122,7 @@ fn lacks_room(
     }
     // `parts` says that the wiring is valid.
     let _valid = wiring.parts();
-    if let Some(queue) = queue_at(wiring, spot) {
+    if let Some(queue) = branch_queue(wiring, spot) {
         blocked.enter(queue as usize, index)?;
     }
     Ok(true)

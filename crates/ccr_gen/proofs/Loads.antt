@@ -19,7 +19,7 @@ use Rattle.ccr_base.proofs.Filters.{filter_swap}
 use Rattle.ccr_model.proofs.FirstNames.{names_of-append, same_names}
 use Rattle.ccr_base.proofs.Options.{some_of}
 use Rattle.ccr_base.proofs.Lists.{all_weaker}
-use Rattle.ccr_model.proofs.SameNames.{same_message-self}
+use Rattle.ccr_base.proofs.SameNames.{same_message-self}
 use Rattle.ccr_model.proofs.TakenOnce.{joined_some}
 use Rattle.ccr_model.proofs.MessageNames.{any_fits}
 use Rattle.ccr_gen.specs.Generated.{any_of, generated}

@@ -14,7 +14,7 @@ use Rattle.ccr_base.specs.Values.{same_value}
 use Rattle.ccr_wiring.specs.declared.parts.PosterPart.{PosterPart}
 use Rattle.ccr_model.specs.declared.history.Event.{Event}
 use Rattle.ccr_model.specs.declared.history.Event.TheVariants as events
-use Rattle.ccr_model.specs.Posts.{posts, taken, posts_of_poster, posts_of_task, posts_of_tasks, is_task_message}
+use Rattle.ccr_model.specs.Posts.{posts, taken, posts_of_poster, posts_of_task, posts_of_tasks, is_task_message, made_by_poster, task_messages}
 use Rattle.ccr_model.specs.Firings.{firings}
 use Rattle.ccr_model.specs.Tasks.{running}
 use Rattle.ccr_model.specs.TaskData.{play_of}
@@ -28,7 +28,7 @@ use Rattle.ccr_model.proofs.TakenOnce.{FireFacts-allowed, taken-push}
 use Rattle.ccr_gen.specs.Posters.{sent, script, posters}
 use Rattle.ccr_gen.specs.Generated.{generated}
 use Rattle.ccr_gen.proofs.Lines.{script_more}
-use Rattle.ccr_gen.specs.Weights.{weight, load, lines, by_task, made, tasked, is_open, potential, whole}
+use Rattle.ccr_gen.specs.Weights.{weight, load, lines, by_task, is_open, potential, whole}
 use Rattle.ccr_gen.proofs.Loads.{fire_falls}
 use Rattle.ccr_gen.proofs.Plays.{post_pays}
 use Rattle.ccr_gen.proofs.OneMoreMessage.{due_firing, due_later, due_paid, left_task, left_script}
@@ -38,7 +38,7 @@ load_more : (gone : List MsgId) (ms : List Msg) (m : Msg) → load (filter (is_o
 load_more gone [] m = grind arith
 load_more gone (x ∷ ms) m = grind (arith, load_more gone ms m)
 
-tasked_more : (ms : List Msg) (m : Msg) → tasked (ms ++ m ∷ []) ≡ tasked ms + (if is_task_message m.id then 1 else 0)
+tasked_more : (ms : List Msg) (m : Msg) → task_messages (ms ++ m ∷ []) ≡ task_messages ms + (if is_task_message m.id then 1 else 0)
 tasked_more ms m = grind (arith, common_steps)
 
 pub posted_port : (m : Msg) (s : Sent) → is_post m s ≡ true → m.port ≡ s.port
@@ -56,14 +56,14 @@ post_falls size h m (Script actor place) named is =
     let parts = both (place == posts_of_poster h actor) (option_map_or (is_post m) (option_and_then (λ (p : PosterPart). slice_get p.posts place) (slice_get (posters size) actor)) false) line in
     let its = some_of (is_post m) (option_and_then (λ (p : PosterPart). slice_get p.posts place) (slice_get (posters size) actor)) parts.1 in
     let poster = some_then (λ (p : PosterPart). slice_get p.posts place) (slice_get (posters size) actor) its.0 its.1 in
-    let next : place ≡ made (posts h) actor = grind (arith, nat_tests, parts.0) in
+    let next : place ≡ made_by_poster (posts h) actor = grind (arith, nat_tests, parts.0) in
     let port = posted_port m its.0 its.2 in
     let weighs : weight m.port ≡ weight its.0.port = ap weight port in
-    let there : slice_get poster.0.posts (made (posts h) actor) ≡ Some its.0 = subst (λ (n : ℕ). slice_get poster.0.posts n ≡ Some its.0) next poster.2 in
+    let there : slice_get poster.0.posts (made_by_poster (posts h) actor) ≡ Some its.0 = subst (λ (n : ℕ). slice_get poster.0.posts n ≡ Some its.0) next poster.2 in
     let a = left_script (posts h) m actor place 0 actor (posters size) poster.0 its.0 named (omega arith) poster.1 there in
     let b = load_more (taken h) (posts h) m in
     let c = due_later (posts h) m (firings h) in
-    let d : tasked (posts h ++ m ∷ []) ≡ tasked (posts h) = let out : is_task_message m.id ≡ false = rw named refl in grind (arith, tasked_more (posts h) m, out) in
+    let d : task_messages (posts h ++ m ∷ []) ≡ task_messages (posts h) = let out : is_task_message m.id ≡ false = rw named refl in grind (arith, tasked_more (posts h) m, out) in
     omega (arith, a, b, c, d, weighs)
 post_falls size h m (Task t place) named is =
     let line = (refused_not (is_play_post (generated size) h t place m) _ _ is).0 in
@@ -77,7 +77,7 @@ post_falls size h m (Task t place) named is =
     let a = left_task (posts h) m t place 0 (posters size) named in
     let b = load_more (taken h) (posts h) m in
     let c = due_paid (posts h) m t place (firings h) paid.0 named none paid.1 in
-    let d : tasked (posts h ++ m ∷ []) ≡ tasked (posts h) + 1 = let own : is_task_message m.id ≡ true = rw named refl in grind (arith, tasked_more (posts h) m, own) in
+    let d : task_messages (posts h ++ m ∷ []) ≡ task_messages (posts h) + 1 = let own : is_task_message m.id ≡ true = rw named refl in grind (arith, tasked_more (posts h) m, own) in
     let e = paid.3 in
     omega (arith, a, b, c, d, e, weighs)
 

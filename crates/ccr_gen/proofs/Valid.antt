@@ -4,6 +4,7 @@ use Rattle.std.specs.Prelude.{◌||◌, ◌==◌, ◌%◌, nat_lt, nat_le}
 use Rattle.std.specs.List.{list_any, range_with_len}
 use Rattle.std.proofs.lemmas.Bool.Decides.{nat_tests}
 use Rattle.ccr_base.specs.declared.messages.Sent.{Sent}
+use Rattle.ccr_base.proofs.Booleans.{none_or_false}
 use Rattle.ccr_wiring.specs.Codes.{code_of}
 use Rattle.ccr_wiring.specs.Groups.{has_misgrouped, has_branchless}
 use Rattle.ccr_wiring.specs.Names.{has_repeated_name, has_malformed_name}
@@ -32,9 +33,6 @@ four a b c d ea eb ec ed = rw (ea, eb, ec, ed) refl
 behind : (b : Bool) → b ≡ false → (((((b || false) || false) || false) || false) || false) ≡ false
 behind b e = rw e refl
 
-before_none : (b : Bool) → b ≡ false → (b || false) ≡ false
-before_none b e = rw e refl
-
 small_port : (k : ℕ) → nat_le 5 (k % 3) ≡ false
 small_port k = grind (arith, nat_tests)
 
@@ -42,7 +40,7 @@ named : (size : ℕ) → has_dangling (generated size) ≡ false
 named size =
     let each : (k : ℕ) → post_is_dangling (generated size) (sent k) ≡ false = λ k. rw (small_port k) refl in
     let none : (number : ℕ) → list_any (post_is_dangling (generated size)) (script size number) ≡ false = λ number. script_none (post_is_dangling (generated size)) size number each in
-    before_none _ (four _ _ _ _ (none 0) (none 1) (none 2) (none 3))
+    none_or_false _ (four _ _ _ _ (none 0) (none 1) (none 2) (none 3))
 
 plain : (size : ℕ) → has_newer (generated size) ≡ false
 plain size =
@@ -52,7 +50,7 @@ plain size =
 apart : (size : ℕ) → has_repeat (generated size) ≡ false
 apart size =
     let none : (number : ℕ) → list_any post_repeats (script size number) ≡ false = λ number. script_none post_repeats size number (λ k. refl) in
-    before_none _ (four _ _ _ _ (none 0) (none 1) (none 2) (none 3))
+    none_or_false _ (four _ _ _ _ (none 0) (none 1) (none 2) (none 3))
 
 one_of_four : (k : ℕ) → length (cond (k % 4 == 0) (sent k ∷ []) []) + length (cond (k % 4 == 1) (sent k ∷ []) []) + length (cond (k % 4 == 2) (sent k ∷ []) []) + length (cond (k % 4 == 3) (sent k ∷ []) []) ≡ 1
 one_of_four k = by (k % 4) (grind arith)

@@ -3,7 +3,7 @@ use Rattle.std.proofs.Common.{◌≡◌, ℕ, ◌+◌, ◌-◌, ◌≤◌, Bool,
 use Rattle.std.proofs.lemmas.List.{map-append}
 use Rattle.std.proofs.lemmas.List.Folds.{list_any-append}
 use Rattle.std.proofs.lemmas.Map.Keys.{IsDistinct-push}
-use Rattle.std.specs.List.{list_any, AllByRecursion, IsDistinct}
+use Rattle.std.specs.List.{list_any, IsDistinct}
 use Rattle.std.specs.Map.{keys_of}
 use Rattle.std.proofs.lemmas.Map.Made.{is_some-lookup}
 use Rattle.indexmap.specs.IndexMap.{insert_entry}
@@ -14,8 +14,10 @@ use Rattle.ccr_base.specs.declared.names.TaskId.{TaskId}
 use Rattle.ccr_base.specs.declared.names.Spot.{Spot}
 use Rattle.ccr_base.specs.Names.{same_task, has_task}
 use Rattle.ccr_base.proofs.Options.{not_some}
+use Rattle.ccr_base.proofs.SameNames.{same_task-is}
+use Rattle.ccr_base.proofs.Lists.{none_mapped}
 use Rattle.ccr_places.specs.Interleaves.{Waiting}
-use Rattle.ccr_places.specs.TaskSets.{task_cmp, len-there, same_task-true, same_task_equiv}
+use Rattle.ccr_places.specs.TaskSets.{task_cmp, len-there, same_task_equiv}
 use Rattle.ccr_places.specs.TaskTables.{tasks_where, kept_of, contains-tasks_where, tasks_where-put, tasks_where-gone, tasks_where-same, len-tasks_where, len-tasks_where-le}
 use Rattle.ccr_interleave.specs.declared.admission.Admission.{Admission}
 use Rattle.ccr_interleave.specs.declared.admission.Admission.TheVariants.{Outside, Shared, Alone}
@@ -124,10 +126,6 @@ module _ (old new : List (TaskId × Admission)) (waiting : List Waiting) (shared
 
 -- ---- an admission
 
-none_later : (task : TaskId) (later : List Waiting) → AllByRecursion (λ y. same_task task y ≡ false) (map (λ (w : Waiting). w.task) later) → list_any (λ (w : Waiting). same_task task w.task) later ≡ false
-none_later task [] h = refl
-none_later task (w ∷ later) h = λ i. h.0 i || none_later task later h.1 i
-
 module _ (old new : List (TaskId × Admission)) (oldest : Waiting) (later : List Waiting) (shared alone : ℕ) (tied : Tied old (oldest ∷ later) shared alone) where
   stands : kept_of old oldest.task ≡ Some Outside
   stands = tied.outside oldest.task (ap (λ b. b || list_any (λ (w : Waiting). same_task oldest.task w.task) later) (same_task_equiv.refl oldest.task))
@@ -147,8 +145,8 @@ module _ (old new : List (TaskId × Admission)) (oldest : Waiting) (later : List
         by : (other : TaskId) (here : Bool) → same_task oldest.task other ≡ here → list_any (λ (w : Waiting). same_task other w.task) later ≡ true
             → cond here (Some (admitted_as concurrent)) (kept_of old other) ≡ Some Outside
         by other true same e = absurd (true≢false (sym e
-            ∙ ap (λ t. list_any (λ (w : Waiting). same_task t w.task) later) (sym (same_task-true oldest.task other same))
-            ∙ none_later oldest.task later (tied.waiting_distinct).0))
+            ∙ ap (λ t. list_any (λ (w : Waiting). same_task t w.task) later) (sym (same_task-is oldest.task other same))
+            ∙ none_mapped (same_task oldest.task) (λ (w : Waiting). w.task) later (tied.waiting_distinct).0))
         by other false same e = tied.outside other (ap (λ b. same_task other oldest.task || b) e ∙ or-true (same_task other oldest.task))
 
   module _ (distinct : IsDistinct same_task (keys_of new)) where

@@ -9,7 +9,7 @@ use Rattle.ccr_model.specs.Firings.{dropped, dropped_by, started}
 use Rattle.ccr_model.specs.Legal.{IsAllowed, IsLegal}
 use Rattle.ccr_model.proofs.OneMoreEvent.{dropped-push}
 use Rattle.ccr_model.proofs.LegalParts.{along_legal}
-use Rattle.ccr_model.proofs.SameNames.{same_task-is}
+use Rattle.ccr_base.proofs.SameNames.{same_task-is}
 use Rattle.ccr_base.proofs.Booleans.{refuted, no_both}
 use Rattle.ccr_laws.specs.Drops.{IsDroppedByPut, times_dropped}
 use Rattle.ccr_model.proofs.WhoWasPut.{ArePlaced-legal, new_drop}

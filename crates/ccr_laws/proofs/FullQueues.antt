@@ -24,7 +24,7 @@ use Rattle.ccr_model.specs.Legal.{IsAllowed, IsLegal}
 use Rattle.ccr_model.proofs.TaskSteps.{queued-start, queued-put, queued-fire}
 use Rattle.ccr_model.proofs.LegalParts.{along_legal}
 use Rattle.ccr_base.proofs.Options.{some_of}
-use Rattle.ccr_model.proofs.SameNames.{same_task-self}
+use Rattle.ccr_base.proofs.SameNames.{same_task-self}
 use Rattle.ccr_base.proofs.Booleans.{same_number}
 use Rattle.ccr_base.proofs.Filters.{length-kept}
 use Rattle.ccr_laws.specs.Occurring.{Occurs}

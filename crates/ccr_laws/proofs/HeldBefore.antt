@@ -19,7 +19,7 @@ use Rattle.ccr_wiring.specs.Valid.{IsValid}
 use Rattle.ccr_model.specs.Posts.{posts, posted, taken, held}
 use Rattle.ccr_model.specs.Selection.{names_of}
 use Rattle.ccr_model.specs.Legal.{IsLegal}
-use Rattle.ccr_model.proofs.SameNames.{same_message-is}
+use Rattle.ccr_base.proofs.SameNames.{same_message-is}
 use Rattle.ccr_base.proofs.Booleans.{either, or_assoc, same_number}
 use Rattle.ccr_model.proofs.MessageNames.{has_message-append}
 use Rattle.ccr_laws.specs.Occurring.{Occurs}

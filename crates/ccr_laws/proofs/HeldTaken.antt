@@ -1,24 +1,21 @@
 -- Each message of a legal history is held or taken, and none twice.
-use Rattle.std.proofs.Common.{◌≡◌, ◌+◌, ◌<◌, ◌≤◌, Bool, true, false, not, ◌||◌, List, [], ◌∷◌, ◌++◌, length, refl, sym, ◌∙◌, subst, append-nil, arith}
+use Rattle.std.proofs.Common.{◌≡◌, ◌+◌, ◌≤◌, Bool, true, false, ◌||◌, List, [], ◌∷◌, length, refl, subst, arith}
 use Rattle.std.specs.Prelude.{if◌then◌else◌}
 use Rattle.std.proofs.lemmas.Grind.{common_steps}
 use Rattle.ccr_base.specs.declared.names.MsgId.{MsgId}
-use Rattle.ccr_base.specs.declared.names.TaskId.{TaskId}
-use Rattle.ccr_base.specs.declared.names.Spot.{Spot}
 use Rattle.ccr_base.specs.declared.messages.Msg.{Msg}
 use Rattle.ccr_base.specs.Names.{same_message, has_message}
 use Rattle.ccr_wiring.specs.declared.parts.Parts.{Parts}
-use Rattle.ccr_wiring.specs.Valid.{IsValid, HasPortsApart}
+use Rattle.ccr_wiring.specs.Valid.{IsValid}
 use Rattle.ccr_wiring.proofs.Soundness.{sound}
 use Rattle.ccr_model.specs.declared.history.Event.{Event}
-use Rattle.ccr_model.specs.declared.history.Event.TheVariants as events
 use Rattle.ccr_model.specs.Posts.{posts, taken}
-use Rattle.ccr_model.specs.Legal.{IsAllowed, IsLegal}
-use Rattle.ccr_model.proofs.PostNames.{along, times, posted_once, times_more}
-use Rattle.ccr_model.proofs.OneMoreEvent.{posts-push}
-use Rattle.ccr_model.proofs.SameNames.{same_message-is, same_message-self}
-use Rattle.ccr_model.proofs.TakenOnce.{FireFacts-allowed, named-selection, taken-push, taken_once, times-filter, times_named, untaken}
-use Rattle.ccr_model.proofs.MessageNames.{named_some, has_message-append, left_by}
+use Rattle.ccr_model.specs.Legal.{IsLegal}
+use Rattle.ccr_model.proofs.PostNames.{times, posted_once}
+use Rattle.ccr_base.proofs.SameNames.{same_message-is, same_message-self}
+use Rattle.ccr_model.proofs.TakenOnce.{taken_once, times_named, untaken}
+use Rattle.ccr_model.proofs.MessageNames.{left_by}
+use Rattle.ccr_model.proofs.PostedNames.{are_posted}
 
 left_whole : (ms : List Msg) → length (left_by [] ms) ≡ length ms
 left_whole [] = refl
@@ -68,33 +65,6 @@ names_drop (n ∷ names) ms once some =
         by : (b : Bool) → b || has_message names name ≡ true
         by true = refl
         by false = is
-
--- what was taken was posted
-abbrev pub ArePosted : List Event → Type 0
-ArePosted h = (name : MsgId) → has_message (taken h) name ≡ true → 0 < times name (posts h)
-
-fire_posted : (w : Parts) → HasPortsApart w → (h : List Event) (t : TaskId) (spot : Spot) (names : List MsgId) (cs : List TaskId) → IsAllowed w h (events.Fire t spot names cs) → ArePosted h → (name : MsgId) → has_message (taken h ++ names) name ≡ true → 0 < times name (posts h)
-fire_posted w apart h t spot names cs allowed old name is = by (has_message (taken h) name) refl (sym (has_message-append (taken h) names name) ∙ is)
-  where
-    by : (a : Bool) → has_message (taken h) name ≡ a → has_message (taken h) name || has_message names name ≡ true → 0 < times name (posts h)
-    by true e any = old name e
-    by false e any =
-        let there : has_message names name ≡ true = subst (λ (b : Bool). b || has_message names name ≡ true) e any in
-        let some = named_some name names there in
-        let among = named-selection w h spot name names apart (FireFacts-allowed w h t spot names cs allowed).selection_made in
-        let all = times-filter name (λ (m : Msg). not (has_message (taken h) m.id)) (posts h) in
-        omega (arith, some, among, all)
-
-posted_kept : (w : Parts) → HasPortsApart w → (h : List Event) (e : Event) → ArePosted h → IsAllowed w h e → ArePosted (h ++ e ∷ [])
-posted_kept w apart h (events.Post m) old allowed = rw (taken-push, posts-push, append-nil) (λ name is. (let a = old name is in let b = times_more name (posts h) m in omega (arith, a, b)))
-posted_kept w apart h (events.Fire t spot names cs) old allowed = rw (taken-push, posts-push, append-nil) (fire_posted w apart h t spot names cs allowed old)
-posted_kept w apart h (events.Admit t) old allowed = rw (taken-push, posts-push, append-nil, append-nil) old
-posted_kept w apart h (events.Put t d) old allowed = rw (taken-push, posts-push, append-nil, append-nil) old
-posted_kept w apart h (events.Start t a) old allowed = rw (taken-push, posts-push, append-nil, append-nil) old
-posted_kept w apart h (events.End t how) old allowed = rw (taken-push, posts-push, append-nil, append-nil) old
-
-pub are_posted : (w : Parts) → HasPortsApart w → (h : List Event) → IsLegal w h → ArePosted h
-are_posted w apart h legal = along w ArePosted (posted_kept w apart) (λ name is. absurd (cc)) h legal
 
 -- what was posted is held or taken
 pub held_or_taken : (w : Parts) → IsValid w → (h : List Event) → IsLegal w h → length (untaken h) + length (taken h) ≡ length (posts h)

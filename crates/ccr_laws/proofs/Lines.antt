@@ -1,6 +1,6 @@
 -- How many posts a legal history has.
 use Rattle.std.proofs.Common.{◌≡◌, ℕ, zero, suc, ◌+◌, ◌-◌, ◌<◌, ◌≤◌, Bool, true, false, not, List, [], ◌∷◌, ◌++◌, length, map, filter, Some, None, refl, arith, subst, append-nil}
-use Rattle.std.specs.Prelude.{◌==◌, if◌then◌else◌, sum, option_and_then}
+use Rattle.std.specs.Prelude.{◌==◌, sum, option_and_then}
 use Rattle.std.specs.List.{slice_get}
 use Rattle.std.specs.Option.{option_map_or}
 use Rattle.std.proofs.lemmas.Grind.{common_steps}
@@ -15,22 +15,18 @@ use Rattle.ccr_wiring.specs.declared.parts.PosterPart.{PosterPart}
 use Rattle.ccr_wiring.specs.Limits.{posts_in_all}
 use Rattle.ccr_model.specs.declared.history.Event.{Event}
 use Rattle.ccr_model.specs.declared.history.Event.TheVariants.{Post, Fire, Admit, Put, Start, End}
-use Rattle.ccr_model.specs.Posts.{posts, is_script_of, is_task_message, posts_of_poster}
+use Rattle.ccr_model.specs.Posts.{posts, is_script_of, is_task_message, posts_of_poster, task_messages, made_by_poster}
 use Rattle.ccr_model.specs.Rules.{refusal_of_post, is_post, is_script_line, is_play_post, has_budget}
 use Rattle.ccr_model.specs.Legal.{IsAllowed, IsLegal}
-use Rattle.ccr_model.proofs.PostNames.{along, refused_not, task_messages}
+use Rattle.ccr_model.proofs.PostNames.{along, refused_not, made_by_poster-push}
 use Rattle.ccr_model.proofs.OneMoreEvent.{posts-push}
 use Rattle.ccr_base.proofs.Options.{some_of, some_then, some-below}
 use Rattle.ccr_base.proofs.Booleans.{both, eq-self}
 
--- how many posts of the poster stand among the messages
-abbrev pub lines_of : List Msg → ℕ → ℕ
-lines_of ms number = length (filter (λ (m : Msg). is_script_of number m.id) ms)
-
 -- the lines that the posters from this number on have left
 abbrev pub lines_left : List Msg → ℕ → List PosterPart → ℕ
 lines_left ms number [] = 0
-lines_left ms number (poster ∷ posters) = (length poster.posts - lines_of ms number) + lines_left ms (number + 1) posters
+lines_left ms number (poster ∷ posters) = (length poster.posts - made_by_poster ms number) + lines_left ms (number + 1) posters
 
 -- how many messages are a script's
 abbrev pub script_messages : List Msg → ℕ
@@ -40,25 +36,22 @@ both_kinds : (ms : List Msg) → length ms ≡ script_messages ms + task_message
 both_kinds [] = refl
 both_kinds (m ∷ ms) = grind (arith, both_kinds ms)
 
-pub lines_more : (ms : List Msg) (m : Msg) (n : ℕ) → lines_of (ms ++ m ∷ []) n ≡ lines_of ms n + (if is_script_of n m.id then 1 else 0)
-lines_more ms m n = grind (arith, common_steps)
-
 -- no post gives a line back
 lines_left-push : (ms : List Msg) (m : Msg) (n : ℕ) (ps : List PosterPart) → lines_left (ms ++ m ∷ []) n ps ≤ lines_left ms n ps
 lines_left-push ms m n [] = omega arith
-lines_left-push ms m n (p ∷ ps) = omega (arith, lines_more ms m n, lines_left-push ms m (n + 1) ps)
+lines_left-push ms m n (p ∷ ps) = omega (arith, made_by_poster-push ms m n, lines_left-push ms m (n + 1) ps)
 
 -- a post of a poster that has a line left takes one
-line_taken : (ms : List Msg) (m : Msg) (n k i : ℕ) (ps : List PosterPart) (p : PosterPart) → n + k ≡ i → slice_get ps k ≡ Some p → is_script_of i m.id ≡ true → lines_of ms i < length p.posts → lines_left (ms ++ m ∷ []) n ps + 1 ≤ lines_left ms n ps
+line_taken : (ms : List Msg) (m : Msg) (n k i : ℕ) (ps : List PosterPart) (p : PosterPart) → n + k ≡ i → slice_get ps k ≡ Some p → is_script_of i m.id ≡ true → made_by_poster ms i < length p.posts → lines_left (ms ++ m ∷ []) n ps + 1 ≤ lines_left ms n ps
 line_taken ms m n k i [] p e at own left = absurd (cc)
 line_taken ms m n zero i (q ∷ ps) p e at own left =
     let here : i ≡ n = omega arith in
     let one : q ≡ p = cc in
     let own_here : is_script_of n m.id ≡ true = rw (← here) own in
-    let more : lines_of (ms ++ m ∷ []) n ≡ lines_of ms n + 1 = rw (lines_more ms m n, own_here) refl in
-    let left_here : lines_of ms n < length q.posts = rw (one, ← here) left in
+    let more : made_by_poster (ms ++ m ∷ []) n ≡ made_by_poster ms n + 1 = rw (made_by_poster-push ms m n, own_here) refl in
+    let left_here : made_by_poster ms n < length q.posts = rw (one, ← here) left in
     omega (arith, more, left_here, lines_left-push ms m (n + 1) ps)
-line_taken ms m n (suc k) i (q ∷ ps) p e at own left = omega (arith, lines_more ms m n, line_taken ms m (n + 1) k i ps p (omega arith) at own left)
+line_taken ms m n (suc k) i (q ∷ ps) p e at own left = omega (arith, made_by_poster-push ms m n, line_taken ms m (n + 1) k i ps p (omega arith) at own left)
 
 -- at first all lines are left
 lines_left_first : (n : ℕ) (ps : List PosterPart) → lines_left [] n ps ≡ sum (map (λ (p : PosterPart). length p.posts) ps)
@@ -69,13 +62,13 @@ lines_left_first n (p ∷ ps) = rw (sum_by-cons (λ x. x) (length p.posts) (map 
 pub record ArePosted (w : Parts) (ms : List Msg) : Type 0 where
   pub lines : script_messages ms + lines_left ms 0 w.posters ≤ posts_in_all w.posters
   pub budget : task_messages ms ≤ w.budget
-  pub whole : (n : ℕ) (p : PosterPart) → slice_get w.posters n ≡ Some p → lines_of ms n ≤ length p.posts
+  pub whole : (n : ℕ) (p : PosterPart) → slice_get w.posters n ≡ Some p → made_by_poster ms n ≤ length p.posts
 
 -- the poster of an allowed line has it left
 record HasLine (w : Parts) (ms : List Msg) (a : ℕ) : Type 0 where
   poster : PosterPart
   at : slice_get w.posters a ≡ Some poster
-  left : lines_of ms a < length poster.posts
+  left : made_by_poster ms a < length poster.posts
 
 has_line : (w : Parts) (h : List Event) (a k : ℕ) (m : Msg) → is_script_line w h a k m ≡ true → HasLine w (posts h) a
 has_line w h a k m is =
@@ -98,17 +91,17 @@ posted_line w ms m a k is line known =
       whole = λ n p at. of_poster n p at (a == n) refl;
     }
   where
-    of_poster : (n : ℕ) (p : PosterPart) → slice_get w.posters n ≡ Some p → (b : Bool) → (a == n) ≡ b → lines_of (ms ++ m ∷ []) n ≤ length p.posts
+    of_poster : (n : ℕ) (p : PosterPart) → slice_get w.posters n ≡ Some p → (b : Bool) → (a == n) ≡ b → made_by_poster (ms ++ m ∷ []) n ≤ length p.posts
     of_poster n p at true e =
         let here : a ≡ n = grind (arith, nat_tests, e) in
         let there : slice_get w.posters n ≡ Some line.poster = rw (← here) line.at in
         let one : line.poster ≡ p = cc in
-        let left : lines_of ms n < length p.posts = rw (← one, ← here) line.left in
+        let left : made_by_poster ms n < length p.posts = rw (← one, ← here) line.left in
         let own : is_script_of n m.id ≡ true = rw is e in
-        rw (lines_more ms m n, own) (omega (arith, left))
+        rw (made_by_poster-push ms m n, own) (omega (arith, left))
     of_poster n p at false e =
         let own : is_script_of n m.id ≡ false = rw is e in
-        rw (lines_more ms m n, own) (omega (arith, known.whole n p at))
+        rw (made_by_poster-push ms m n, own) (omega (arith, known.whole n p at))
 
 posted_by_task : (w : Parts) (ms : List Msg) (m : Msg) (t : TaskId) (k : ℕ) → m.id ≡ Task t k → task_messages ms < w.budget → ArePosted w ms → ArePosted w (ms ++ m ∷ [])
 posted_by_task w ms m t k is left known =
@@ -117,7 +110,7 @@ posted_by_task w ms m t k is left known =
     record {
       lines = omega (arith, same, known.lines, lines_left-push ms m 0 w.posters);
       budget = omega (arith, more, left);
-      whole = λ n p at. (let own : is_script_of n m.id ≡ false = rw is refl in rw (lines_more ms m n, own) (omega (arith, known.whole n p at)));
+      whole = λ n p at. (let own : is_script_of n m.id ≡ false = rw is refl in rw (made_by_poster-push ms m n, own) (omega (arith, known.whole n p at)));
     }
 
 posted_next : (w : Parts) (h : List Event) (m : Msg) (name : MsgId) → m.id ≡ name → refusal_of_post w h m name ≡ None → ArePosted w (posts h) → ArePosted w (posts h ++ m ∷ [])

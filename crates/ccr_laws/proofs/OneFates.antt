@@ -1,8 +1,7 @@
 -- Each posted message has exactly one fate.
-use Rattle.std.proofs.Common.{◌≡◌, inl, inr, Bool, true, false, not, List, [], ◌∷◌, ◌++◌, filter, Option, Some, None, refl, sym, ap, ◌∙◌, arith, subst}
+use Rattle.std.proofs.Common.{◌≡◌, inl, inr, Bool, true, false, not, List, [], ◌∷◌, ◌++◌, filter, Option, Some, None, refl, sym, ap, ◌∙◌, subst}
 use Rattle.std.specs.Prelude.{◌==◌, if◌then◌else◌, find}
 use Rattle.std.specs.Option.{option_map, option_map_or}
-use Rattle.std.proofs.lemmas.Grind.{common_steps}
 use Rattle.ccr_base.specs.declared.names.MsgId.{MsgId}
 use Rattle.ccr_base.specs.declared.names.TaskId.{TaskId}
 use Rattle.ccr_base.specs.declared.messages.Msg.{Msg}
@@ -19,28 +18,20 @@ use Rattle.ccr_model.specs.Fates.{state_of, fate_of, fate}
 use Rattle.ccr_model.specs.Legal.{IsLegal}
 use Rattle.ccr_model.proofs.Stable.{firings-append}
 use Rattle.ccr_model.proofs.Allowing.{OneName-legal}
-use Rattle.ccr_model.proofs.Members.{Among, Among-right, Contains-among}
-use Rattle.ccr_model.proofs.SameNames.{same_message-self}
+use Rattle.ccr_model.proofs.Members.{Among, Among-right, Contains-among, found_among}
+use Rattle.ccr_base.proofs.SameNames.{same_message-self}
 use Rattle.ccr_base.proofs.Booleans.{neither, eq-self}
 use Rattle.ccr_laws.specs.Occurring.{Occurs}
 use Rattle.ccr_laws.specs.OneFate.{IsHeld, IsTakenBy, HasFate, HasOneFate}
 use Rattle.ccr_model.proofs.FiringPlacements.{firing_with_placement}
 use Rattle.ccr_model.proofs.MessageNames.{has_message-append}
+use Rattle.ccr_model.proofs.OneMoreEvent.{posts-append}
 use Rattle.ccr_laws.proofs.HeldBefore.{untaken_of_held, untaken_before}
 use Rattle.ccr_laws.proofs.States.{is_in, only_in}
 
 -- whether the firing names the message
 abbrev names_it : MsgId → Firing → Bool
 names_it name f = has_message f.messages name
-
--- a found firing
-found_among : (p : Firing → Bool) (fs : List Firing) (f : Firing) → find p fs ≡ Some f → (Among f fs) × (p f ≡ true)
-found_among p [] f is = absurd (cc)
-found_among p (g ∷ fs) f is = of_test (p g) refl is (found_among p fs f)
-  where
-    of_test : (b : Bool) → p g ≡ b → (if b then Some g else find p fs) ≡ Some f → (find p fs ≡ Some f → (Among f fs) × (p f ≡ true)) → (Among f (g ∷ fs)) × (p f ≡ true)
-    of_test true passes at rest = let same : f ≡ g = cc in (inl same, ap p same ∙ passes)
-    of_test false passes at rest = let more = rest at in (inr more.0, more.1)
 
 -- a message that no firing names isn't taken
 name_out_of_both : (names others : List MsgId) (name : MsgId) → has_message names name ≡ false → has_message others name ≡ false → has_message (names ++ others) name ≡ false
@@ -106,10 +97,6 @@ found_by_taken w valid h legal name t is =
     let all : firings h ≡ firings is.past ++ f ∷ firings is.stands.more = ap firings is.stands.whole ∙ firings-append is.past (Fire t is.spot is.messages is.cuts ∷ is.stands.more) in
     (f, ap (find (names_it name)) all ∙ find_behind (names_it name) (firings is.past) (firings is.stands.more) f none is.named, refl)
 
--- a posted message is found by its name
-pub posts-append : (h es : List Event) → posts (h ++ es) ≡ posts h ++ posts es
-posts-append h es = grind (arith, common_steps)
-
 among_posts : (h past : List Event) (m : Msg) → Occurs h past (Post m) → Among m (posts h)
 among_posts h past m stands = subst (λ g. Among m (posts g)) (sym stands.whole) (subst (Among m) (sym (posts-append past (Post m ∷ stands.more))) (Among-right m (posts past) (m ∷ posts stands.more) (inl refl)))
 
@@ -174,7 +161,7 @@ one_fate w valid h legal past m stands = of_taker (find (names_it m.id) (firings
         }
     of_taker (Some f) found =
         let posted_so = found_name (posts h) m (among_posts h past m stands) in
-        let among = (found_among (names_it m.id) (firings h) f found).0 in
+        let among = found_among (names_it m.id) (firings h) f found in
         let with_placement = firing_with_placement w h legal f among in
         record {
           its = Taken f.task (state_of w h f.task);

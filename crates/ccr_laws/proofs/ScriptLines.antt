@@ -23,19 +23,10 @@ use Rattle.ccr_model.specs.Legal.{IsAllowed, IsLegal, is_complete, are_whole_fro
 use Rattle.ccr_base.proofs.Booleans.{both, same_number}
 use Rattle.ccr_base.proofs.Options.{some_of, get-push}
 use Rattle.ccr_base.proofs.Lists.{take_more}
+use Rattle.ccr_base.proofs.SameNames.{same_numbers-is}
 use Rattle.ccr_model.proofs.PostNames.{along, refused_not}
 use Rattle.ccr_model.proofs.OneMoreEvent.{posts-push}
 use Rattle.ccr_laws.specs.Scripts.{posts_by, sent_of, FollowsScript}
-
-pub same_causes : (xs ys : List ℕ) → same_lists (λ c d. c == d) xs ys ≡ true → xs ≡ ys
-same_causes [] [] is = refl
-same_causes [] (y ∷ ys) is = absurd (cc)
-same_causes (x ∷ xs) [] is = absurd (cc)
-same_causes (x ∷ xs) (y ∷ ys) is =
-    let parts = both (x == y) (same_lists (λ c d. c == d) xs ys) is in
-    let here : x ≡ y = same_number x y parts.0 in
-    let rest : xs ≡ ys = same_causes xs ys parts.1 in
-    cc
 
 -- a message that is the post has its port, its value and its causes
 sent-post : (m : Msg) (s : Sent) → is_post m s ≡ true → sent_of m ≡ s
@@ -44,7 +35,7 @@ sent-post m s is =
     let front = both (m.port == s.port) (same_value m.value s.value) parts.0 in
     let port : m.port ≡ s.port = same_number m.port s.port front.0 in
     let value : m.value ≡ s.value = (bytes_decides m.value s.value).0 front.1 in
-    let causes : m.causes ≡ s.causes = same_causes m.causes s.causes parts.1 in
+    let causes : m.causes ≡ s.causes = same_numbers-is m.causes s.causes parts.1 in
     rw (port, value, causes) refl
 
 -- so do all posters

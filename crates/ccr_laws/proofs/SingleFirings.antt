@@ -7,7 +7,7 @@ use Rattle.std.proofs.lemmas.Bool.Decides.{nat_tests}
 use Rattle.ccr_base.specs.declared.names.MsgId.{MsgId}
 use Rattle.ccr_base.specs.declared.names.TaskId.{TaskId}
 use Rattle.ccr_base.specs.declared.names.Spot.{Spot}
-use Rattle.ccr_base.specs.declared.names.Spot.TheVariants.{Branch, Site}
+use Rattle.ccr_base.specs.declared.names.Spot.TheVariants.{Branch}
 use Rattle.ccr_base.specs.declared.policies.Group.{Group}
 use Rattle.ccr_base.specs.declared.policies.Group.TheVariants as groups
 use Rattle.ccr_wiring.specs.declared.parts.Parts.{Parts}
@@ -29,6 +29,7 @@ use Rattle.ccr_model.proofs.PostNames.{along}
 use Rattle.ccr_model.proofs.TakenOnce.{FireFacts-allowed}
 use Rattle.ccr_model.proofs.OneMoreEvent.{firings-push}
 use Rattle.ccr_base.proofs.Booleans.{both, same_number}
+use Rattle.ccr_base.proofs.SameNames.{same_spot-is}
 use Rattle.ccr_laws.specs.Times.{times_fired, times_any_fired, times_torn_down}
 use Rattle.ccr_model.proofs.AllowedFirings.{BranchFacts-where, live_at, firings-other}
 
@@ -101,13 +102,9 @@ choice_first w valid number arbiter at kind h s live is =
 pub choice_once : (w : Parts) → IsValid w → (h : List Event) → IsLegal w h → (number : ℕ) (arbiter : ArbiterPart) → slice_get w.arbiters number ≡ Some arbiter → arbiter.kind ≡ kinds.Choice → times_any_fired w h number ≤ 1
 choice_once w valid h legal number arbiter at kind = at_most_once w (is_branch_where w (λ (s : Placement). s.domain == number)) (choice_first w valid number arbiter at kind) h legal
 
-same_branch : (b : ℕ) (s : Spot) → same_spot s (Branch b) ≡ true → s ≡ Branch b
-same_branch b (Branch c) is = ap (λ n. Branch n) (same_number c b is)
-same_branch b (Site c k) is = absurd (cc)
-
 once_first : (w : Parts) (b : ℕ) (its : Placement) → placement w b ≡ Some its → its.branch.group ≡ groups.Once → (h : List Event) (s : Spot) → is_live w h s ≡ true → same_spot s (Branch b) ≡ true → length (fired_at h (Branch b)) ≡ 0
 once_first w b its at group h s live is =
-    let there : is_live w h (Branch b) ≡ true = subst (λ r. is_live w h r ≡ true) (same_branch b s is) live in
+    let there : is_live w h (Branch b) ≡ true = subst (λ r. is_live w h r ≡ true) (same_spot-is s (Branch b) is) live in
     let known : is_live_in w h b its.domain its.branch.group ≡ true = subst (λ o. option_map_or (λ (s : Placement). is_live_in w h b s.domain s.branch.group) o false ≡ true) at there in
     let none : is_live_in w h b its.domain groups.Once ≡ true = subst (λ g. is_live_in w h b its.domain g ≡ true) group known in
     none_there (fired_at h (Branch b)) none

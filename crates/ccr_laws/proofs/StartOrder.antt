@@ -12,7 +12,7 @@ use Rattle.ccr_model.specs.Legal.{IsAllowed, IsLegal}
 use Rattle.ccr_model.specs.Consequences.{are_distinct_tasks}
 use Rattle.ccr_model.proofs.PostNames.{along}
 use Rattle.ccr_model.proofs.OneMoreEvent.{put-push, started-push, dropped-push}
-use Rattle.ccr_model.proofs.SameNames.{same_task-is}
+use Rattle.ccr_base.proofs.SameNames.{same_task-is}
 use Rattle.ccr_model.proofs.TasksLeft.{has_task-filter, has_task-without, of_filter, of_without, filter_on, without_both, lists_start, distinct-filter}
 use Rattle.ccr_base.proofs.Booleans.{both, or_left, or_right, and_false, refuted, no_both, same_number}
 use Rattle.ccr_base.proofs.Filters.{filter_swap}

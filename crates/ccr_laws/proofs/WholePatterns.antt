@@ -22,12 +22,12 @@ use Rattle.ccr_wiring.specs.Wirings.{Placement, placement, site_port}
 use Rattle.ccr_wiring.specs.Valid.{IsValid, IsSlotFilled, IsPatternFilled}
 use Rattle.ccr_wiring.proofs.Soundness.{sound}
 use Rattle.ccr_model.specs.Posts.{held}
-use Rattle.ccr_model.specs.Selection.{names_of, joined, selection_of_slots, are_first, are_split, is_selection_of, are_oldest, is_selection}
+use Rattle.ccr_model.specs.Selection.{names_of, selection_of_slots, are_first, are_split, is_selection_of, are_oldest, is_selection}
 use Rattle.ccr_model.specs.Legal.{IsLegal}
 use Rattle.ccr_model.proofs.FirstNames.{names_of-append, length-names_of, same_names}
-use Rattle.ccr_model.proofs.TakenOnce.{FireFacts-allowed}
+use Rattle.ccr_model.proofs.TakenOnce.{FireFacts-allowed, joined_some}
 use Rattle.ccr_base.proofs.Options.{some_of}
-use Rattle.ccr_model.proofs.SameNames.{same_message-is}
+use Rattle.ccr_base.proofs.SameNames.{same_message-is}
 use Rattle.ccr_base.proofs.Booleans.{both}
 use Rattle.ccr_laws.specs.Occurring.{Occurs}
 use Rattle.ccr_laws.specs.WholePattern.{AreFirst, FillsSlot, FillsSlots, FillsGather, FillsPattern, IsOldest, TakesWhole}
@@ -57,18 +57,13 @@ fills_slot past slot xs filled is = of_test (is_choosable slot (held past slot.p
         let taken : take slot.most (fitting slot.pred (held past slot.port)) ≡ xs = cc in
         subst (FillsSlot past slot) taken (taken_slot past slot filled e)
 
-joined_parts : (a b : Option (List Msg)) (xs : List Msg) → joined a b ≡ Some xs → (front : List Msg) × (back : List Msg) × (a ≡ Some front) × (b ≡ Some back) × (xs ≡ front ++ back)
-joined_parts (Some front) (Some back) xs is = (front, back, refl, refl, cc)
-joined_parts None b xs is = absurd (cc)
-joined_parts (Some front) None xs is = absurd (cc)
-
 fills_parts : (past : List Event) (slots : List Slot) (xs : List Msg) → ((index : ℕ) (slot : Slot) → slice_get slots index ≡ Some slot → IsSlotFilled slot) → selection_of_slots (held past) slots ≡ Some xs → (parts : List (List Msg)) × (AllZip (FillsSlot past) slots parts) × (names_of xs ≡ flat_map names_of parts)
 fills_parts past [] xs filled is = let none : xs ≡ [] = cc in ([], tt, ap names_of none)
 fills_parts past (slot ∷ slots) xs filled is =
-    let split = joined_parts (selection slot (held past slot.port)) (selection_of_slots (held past) slots) xs is in
+    let split = joined_some (selection slot (held past slot.port)) (selection_of_slots (held past) slots) xs is in
     let rest = fills_parts past slots split.1 (λ index other at. filled (suc index) other at) split.3 in
     let one = fills_slot past slot split.0 (filled 0 slot refl) split.2 in
-    (split.0 ∷ rest.0, (one, rest.1), ap names_of split.4 ∙ names_of-append split.0 split.1 ∙ ap (λ names. names_of split.0 ++ names) rest.2)
+    (split.0 ∷ rest.0, (one, rest.1), sym (ap names_of split.4) ∙ names_of-append split.0 split.1 ∙ ap (λ names. names_of split.0 ++ names) rest.2)
 
 fills_slots : (past : List Event) (slots : List Slot) (names : List MsgId) → ((index : ℕ) (slot : Slot) → slice_get slots index ≡ Some slot → IsSlotFilled slot) → (o : Option (List Msg)) → selection_of_slots (held past) slots ≡ o → option_map_or (λ messages. same_lists same_message (names_of messages) names) o false ≡ true → FillsSlots past slots names
 fills_slots past slots names filled None at is = absurd (cc)

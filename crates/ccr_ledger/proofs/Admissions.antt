@@ -31,7 +31,7 @@ use Rattle.ccr_model.proofs.LegalParts.{along_legal}
 use Rattle.ccr_model.proofs.PostNames.{refused_not}
 use Rattle.ccr_model.proofs.OneMoreEvent.{posts-push, last-push, ever_admitted-push, fired-fire}
 use Rattle.ccr_model.proofs.Roots.{root_own, IsOneEach-legal}
-use Rattle.ccr_model.proofs.SameNames.{same_task-is, same_task-self, same_task-sym}
+use Rattle.ccr_base.proofs.SameNames.{same_task-is, same_task-self, same_task-sym}
 use Rattle.ccr_model.proofs.Suspending.{is_gone_on}
 use Rattle.ccr_model.proofs.TaskLists.{any_named, not_within}
 use Rattle.ccr_model.proofs.WhoWasPut.{ArePlaced-legal}

@@ -20,7 +20,7 @@ use Rattle.ccr_model.specs.Tasks.{is_concurrent, is_of_domain, is_over}
 use Rattle.ccr_model.specs.Rules.{is_concurrent_task}
 use Rattle.ccr_model.specs.Legal.{IsAllowed, IsLegal}
 use Rattle.ccr_model.proofs.OneMoreEvent.{ever_admitted-push}
-use Rattle.ccr_model.proofs.SameNames.{same_task-self, same_task-sym}
+use Rattle.ccr_base.proofs.SameNames.{same_task-self, same_task-sym}
 use Rattle.ccr_base.proofs.Booleans.{or_left}
 use Rattle.ccr_model.proofs.TasksLeft.{filter_on}
 use Rattle.ccr_model.proofs.FiredTasks.{IsFired, placement_stays}

@@ -23,7 +23,7 @@ use Rattle.ccr_model.proofs.Cutting.{AdmitFacts-allowed}
 use Rattle.ccr_model.proofs.Ending.{RunningFacts-allowed}
 use Rattle.ccr_model.proofs.FiredTasks.{IsFired, root_stays, placement_fired}
 use Rattle.ccr_model.proofs.AllowedFirings.{firings-other}
-use Rattle.ccr_model.proofs.SameNames.{same_task-sym, same_task-self}
+use Rattle.ccr_base.proofs.SameNames.{same_task-sym, same_task-self}
 use Rattle.ccr_model.proofs.Stable.{firing_named-append, before-append, load_at-append, play_of-append}
 use Rattle.ccr_model.proofs.WhoWasPut.{ArePlaced-legal, PutFacts-allowed, StartFacts-allowed, new_drop}
 use Rattle.ccr_ledger.specs.declared.cards.Card.{Card}

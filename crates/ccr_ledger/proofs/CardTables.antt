@@ -4,7 +4,7 @@ use Rattle.std.specs.Prelude.{if◌then◌else◌, option_map}
 use Rattle.std.specs.Option.{option_map_or}
 use Rattle.ccr_base.specs.declared.names.TaskId.{TaskId}
 use Rattle.ccr_base.specs.Names.{same_task, has_task}
-use Rattle.ccr_model.proofs.SameNames.{same_task-is, same_task-self, same_task-sym}
+use Rattle.ccr_base.proofs.SameNames.{same_task-is, same_task-self, same_task-sym}
 use Rattle.ccr_base.proofs.Booleans.{neither}
 use Rattle.ccr_base.proofs.Options.{map_map}
 use Rattle.ccr_ledger.specs.declared.cards.Card.{Card}

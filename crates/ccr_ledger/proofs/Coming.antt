@@ -13,22 +13,21 @@ use Rattle.ccr_model.specs.declared.history.Event.{Event}
 use Rattle.ccr_model.specs.declared.history.Event.TheVariants.{Post, Fire, Admit, Put, Start, End}
 use Rattle.ccr_model.specs.declared.history.EndHow.{EndHow}
 use Rattle.ccr_model.specs.Firings.{Firing, firing_of, started_by, dropped_by, cut}
-use Rattle.ccr_model.specs.Tasks.{is_teardown, is_branch_where, fired_by, waiting, coming}
+use Rattle.ccr_model.specs.Tasks.{is_branch_where, fired_by, coming}
 use Rattle.ccr_model.specs.Live.{is_live_in}
-use Rattle.ccr_model.specs.Rules.{cuts_at}
 use Rattle.ccr_model.specs.Legal.{IsAllowed, IsLegal}
 use Rattle.ccr_model.specs.Consequences.{are_distinct_tasks}
-use Rattle.ccr_model.specs.Interleaves.{is_placement_in}
 use Rattle.ccr_model.proofs.Allowing.{OneName-legal}
 use Rattle.ccr_base.proofs.Options.{some_of}
-use Rattle.ccr_model.proofs.SameNames.{same_task-is, same_task-self}
+use Rattle.ccr_base.proofs.SameNames.{same_task-is, same_task-self}
 use Rattle.ccr_base.proofs.Booleans.{not_true, both, or_left, or_right, refuted, no_both}
-use Rattle.ccr_model.proofs.TasksLeft.{filter_on, distinct-filter}
+use Rattle.ccr_model.proofs.TasksLeft.{filter_on}
 use Rattle.ccr_model.proofs.TaskLists.{of_more, not_more}
 use Rattle.ccr_model.proofs.FiredTasks.{IsFired, fired_has}
 use Rattle.ccr_model.proofs.WhoWasPut.{ArePlaced-legal, StartFacts-allowed, StartFacts-queued, PutFacts-allowed, new_drop}
 use Rattle.ccr_model.proofs.AllowedFirings.{FiresSo-allowed, WaitingFacts, firings-other}
 use Rattle.ccr_model.proofs.Cutting.{CutFacts-legal, cut_by, waits_unput}
+use Rattle.ccr_model.proofs.TasksOnce.{cuts_distinct}
 use Rattle.ccr_ledger.specs.declared.cards.Card.{Card}
 use Rattle.ccr_ledger.specs.declared.cards.TaskStage.TheVariants as stages
 use Rattle.ccr_ledger.specs.Books.{Books, card_at, number, more, less}
@@ -138,18 +137,6 @@ counted-cuts w h out (t ∷ cs) b legal size once apart cards counts =
         of_test false e = refl
         of_test true e = let one : u ≡ t = same_task-is u t e in absurd (no_both (subst (λ x. has_task cs x ≡ true) one is) out_t)
 
--- who is cut once, and was on his way
-distinct_cuts : (w : Parts) (h : List Event) (n : ℕ) → IsLegal w h → are_distinct_tasks (cuts_at w h (Branch n)) ≡ true
-distinct_cuts w h n legal = of_option (placement w n)
-  where
-    of_option : (o : Option Placement) → are_distinct_tasks (option_map_or (λ (z : Placement). if is_teardown z.branch.group then waiting w h z.domain else []) o []) ≡ true
-    of_option None = refl
-    of_option (Some z) = of_test (is_teardown z.branch.group)
-      where
-        of_test : (b : Bool) → are_distinct_tasks (if b then waiting w h z.domain else []) ≡ true
-        of_test true = distinct-filter _ (fired_by w (is_placement_in z.domain) h) (fired_once w (λ (f : Firing). is_branch_where w (is_placement_in z.domain) f.spot) h legal)
-        of_test false = refl
-
 length-cuts : (cs : List TaskId) (b : Books) → length (after_cuts cs b).coming ≡ length b.coming
 length-cuts [] b = refl
 length-cuts (t ∷ cs) b = length-cuts cs (after_cut t b) ∙ of_card (card_at b.tasks t)
@@ -172,7 +159,7 @@ counted-branch : (w : Parts) (h : List Event) (t : TaskId) (n : ℕ) (ms : List 
 counted-branch w h t n ms cs b legal allowed sizes tasks counts =
     let so = FiresSo-allowed w h t (Branch n) ms cs allowed in
     let at = some_of (λ (s : Placement). is_live_in w h n s.domain s.branch.group) (placement w n) so.live in
-    let once : are_distinct_tasks cs ≡ true = subst (λ ts. are_distinct_tasks ts ≡ true) (sym so.cuts) (distinct_cuts w h n legal) in
+    let once : are_distinct_tasks cs ≡ true = subst (λ ts. are_distinct_tasks ts ≡ true) (sym so.cuts) (cuts_distinct w h (Branch n) legal) in
     let e : Event = Fire t (Branch n) ms cs in
     let after = counted-cuts w h (gone h) cs b legal sizes.coming once (λ u is. out u (waits u is)) (λ u is. card u (waits u is)) counts in
     let new = refuted (has_task (gone h ++ cs) t) (λ is. no_both (fired_has h t (of_more (gone h) cs t (IsFired h t) is (gone_fired w h legal t) (λ u. waits_fired t (waits t u)))) so.new_name) in

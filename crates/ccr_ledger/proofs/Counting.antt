@@ -5,7 +5,7 @@ use Rattle.std.proofs.Math.Bool.{and-true}
 use Rattle.ccr_base.specs.declared.names.TaskId.{TaskId}
 use Rattle.ccr_base.specs.Names.{same_task, has_task, without}
 use Rattle.ccr_model.specs.Consequences.{are_distinct_tasks}
-use Rattle.ccr_model.proofs.SameNames.{same_task-is, same_task-self, same_task-sym}
+use Rattle.ccr_base.proofs.SameNames.{same_task-is, same_task-self, same_task-sym}
 use Rattle.ccr_base.proofs.Booleans.{both, not_true, or_left, or_right, and_false, same_number}
 use Rattle.ccr_model.proofs.TasksLeft.{filter_on, has_task-append}
 use Rattle.ccr_model.proofs.TaskLists.{filter_append}

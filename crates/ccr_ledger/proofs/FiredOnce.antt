@@ -1,5 +1,5 @@
 -- Nobody fires twice, and who is cut fired.
-use Rattle.std.proofs.Common.{◌≡◌, Bool, true, false, List, [], ◌∷◌, ◌++◌, map, filter, refl, ap, ◌∙◌, append-nil, subst}
+use Rattle.std.proofs.Common.{◌≡◌, Bool, true, false, List, [], ◌∷◌, ◌++◌, map, filter, refl, ap, ◌∙◌, append-nil}
 use Rattle.std.specs.Prelude.{if◌then◌else◌}
 use Rattle.ccr_base.specs.declared.names.TaskId.{TaskId}
 use Rattle.ccr_base.specs.declared.names.MsgId.{MsgId}
@@ -11,15 +11,11 @@ use Rattle.ccr_model.specs.declared.history.Event.TheVariants.{Post, Fire, Admit
 use Rattle.ccr_model.specs.Firings.{Firing, firing_of, firings, fired_where, cut}
 use Rattle.ccr_model.specs.Legal.{IsAllowed, IsLegal}
 use Rattle.ccr_model.specs.Consequences.{are_distinct_tasks}
-use Rattle.ccr_model.proofs.Allowing.{OneName-legal}
 use Rattle.ccr_base.proofs.Booleans.{refuted, no_both, or_left, or_right}
-use Rattle.ccr_model.proofs.Cutting.{cut_by}
-use Rattle.ccr_model.proofs.FiredTasks.{AreFired, IsFired-append}
 use Rattle.ccr_model.proofs.AllowedFirings.{FiresSo-allowed, firings-other}
 use Rattle.ccr_model.proofs.LegalParts.{along_legal}
-use Rattle.ccr_model.proofs.OneMoreEvent.{firings-push, cut-push}
+use Rattle.ccr_model.proofs.OneMoreEvent.{firings-push}
 use Rattle.ccr_model.proofs.TasksLeft.{distinct-push}
-use Rattle.ccr_model.proofs.TaskLists.{of_more}
 use Rattle.ccr_model.proofs.TasksOnce.{some_of_all}
 
 -- one more firing, of those that pass
@@ -60,18 +56,3 @@ fired_once w test = along_legal w (λ h. are_distinct_tasks (fired_where test h)
     kept h (Put t d) legal allowed once = other h (Put t d) refl once
     kept h (Start t a) legal allowed once = other h (Start t a) refl once
     kept h (End t how) legal allowed once = other h (End t how) refl once
-
--- who is cut fired
-pub cut_more : (w : Parts) (h : List Event) (e : Event) → IsLegal w h → IsAllowed w h e → AreFired h (cut (e ∷ []))
-cut_more w h (Fire t s ms cs) legal allowed u is = let waits = cut_by w h t s ms cs (OneName-legal w h legal) allowed u is in (waits.1.firing, waits.1.is_firing)
-cut_more w h (Post m) legal allowed u is = absurd (cc)
-cut_more w h (Admit t) legal allowed u is = absurd (cc)
-cut_more w h (Put t d) legal allowed u is = absurd (cc)
-cut_more w h (Start t a) legal allowed u is = absurd (cc)
-cut_more w h (End t how) legal allowed u is = absurd (cc)
-
-pub cut_fired : (w : Parts) (h : List Event) → IsLegal w h → AreFired h (cut h)
-cut_fired w = along_legal w (λ h. AreFired h (cut h)) kept (λ u is. absurd (cc))
-  where
-    kept : (h : List Event) (e : Event) → IsLegal w h → IsAllowed w h e → AreFired h (cut h) → AreFired (h ++ e ∷ []) (cut (h ++ e ∷ []))
-    kept h e legal allowed known u is = IsFired-append h (e ∷ []) u (of_more (cut h) (cut (e ∷ [])) u _ (subst (λ ts. has_task ts u ≡ true) (cut-push h e) is) (known u) (cut_more w h e legal allowed u))

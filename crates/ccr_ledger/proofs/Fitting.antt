@@ -13,7 +13,7 @@ use Rattle.ccr_ledger.proofs.Taking.{without-any}
 use Rattle.ccr_model.specs.Selection.{names_of, are_first, are_split}
 use Rattle.ccr_model.proofs.PostNames.{times}
 use Rattle.ccr_model.proofs.TakenOnce.{times-filter}
-use Rattle.ccr_model.proofs.SameNames.{same_message-self, same_message-sym, same_message-is}
+use Rattle.ccr_base.proofs.SameNames.{same_message-self, same_message-sym, same_message-is}
 use Rattle.ccr_base.proofs.Booleans.{both, or_none}
 use Rattle.ccr_model.proofs.MessageNames.{any_fits, left_by}
 

@@ -15,8 +15,7 @@ use Rattle.ccr_model.proofs.TasksLeft.{has_task-append}
 use Rattle.ccr_model.proofs.TaskLists.{of_more, not_more, not_within}
 use Rattle.ccr_model.proofs.FiredTasks.{IsFired, AreFired}
 use Rattle.ccr_model.proofs.WhoWasPut.{ArePlaced-legal, QueuedFacts}
-use Rattle.ccr_model.proofs.Cutting.{CutFacts-legal}
-use Rattle.ccr_ledger.proofs.FiredOnce.{cut_fired}
+use Rattle.ccr_model.proofs.Cutting.{CutFacts-legal, cut_fired}
 
 -- those that are on no way to a queue any more
 abbrev pub gone : List Event → List TaskId

@@ -11,7 +11,7 @@ pub mod Flags
 pub mod Running
 pub mod ScriptPosts
 pub mod Empty
-pub mod NewNames
+pub mod HeldNames
 pub mod Fitting
 pub mod PortsLeft
 pub mod PortsKept

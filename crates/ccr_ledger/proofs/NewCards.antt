@@ -26,11 +26,12 @@ use Rattle.ccr_model.proofs.FiredTasks.{AreFired, fired_has}
 use Rattle.ccr_model.proofs.AllowedFirings.{FiresSo-allowed, firing_named-new, before-new}
 use Rattle.ccr_model.proofs.OneMoreEvent.{fired-fire}
 use Rattle.ccr_model.proofs.Roots.{root_own, root_resumed}
-use Rattle.ccr_model.proofs.SameNames.{same_task-is}
+use Rattle.ccr_base.proofs.SameNames.{same_task-is}
 use Rattle.ccr_model.proofs.Stable.{load_at-append}
 use Rattle.ccr_model.proofs.Suspending.{ResumeFacts}
 use Rattle.ccr_model.proofs.WhoWasPut.{ArePlaced-legal}
 use Rattle.ccr_model.proofs.TaskSteps.{firing_named-fire}
+use Rattle.ccr_model.proofs.Cutting.{cut_now_fired, cut_fired}
 use Rattle.ccr_ledger.specs.declared.cards.Card.{Card}
 use Rattle.ccr_ledger.specs.declared.cards.TaskStage.TheVariants as stages
 use Rattle.ccr_ledger.specs.Books.{Books, card_at, in_stage, all_moved}
@@ -41,7 +42,6 @@ use Rattle.ccr_ledger.proofs.Admissions.{admitted-other, admitted-new, made-othe
 use Rattle.ccr_ledger.proofs.CardSteps.{altered, card-stays, card-step}
 use Rattle.ccr_ledger.proofs.CardTables.{names, names-all_moved, names-new, card-new, among, card-all_moved, tasks-cuts, ports-cuts}
 use Rattle.ccr_ledger.proofs.Stages.{unput, stage-fire}
-use Rattle.ccr_ledger.proofs.FiredOnce.{cut_more, cut_fired}
 
 -- as many cards as firings
 card_count : (h : List Event) (cards : List (TaskId × Card)) → names cards ≡ fired h → length cards ≡ length (firings h)
@@ -79,7 +79,7 @@ module _ (w : Parts) (h : List Event) (t : TaskId) (at : Spot) (ms : List MsgId)
   out_of ts all = refuted (has_task ts t) (λ is. no_both (fired_has h t (all t is)) is_new)
 
   not_cut_now : has_task cs t ≡ false
-  not_cut_now = out_of cs (λ u is. cut_more w h event legal allowed u (rw (append-nil cs) is))
+  not_cut_now = out_of cs (λ u is. cut_now_fired w h event legal allowed u (rw (append-nil cs) is))
 
   stage-new : (s : Spot) → stage_of w (h ++ event ∷ []) t s ≡ (if needs_no_admission w s then stages.Ready else stages.Waiting)
   stage-new s =

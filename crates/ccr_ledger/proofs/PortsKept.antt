@@ -24,6 +24,7 @@ use Rattle.ccr_base.proofs.Options.{some_of}
 use Rattle.ccr_model.proofs.Suspending.{ResumeFacts, ResumeFacts-allowed}
 use Rattle.ccr_model.proofs.TakenOnce.{FireFacts-allowed}
 use Rattle.ccr_model.proofs.MessageNames.{held_once}
+use Rattle.ccr_model.proofs.PostedNames.{fresh_post}
 use Rattle.ccr_ledger.specs.Rows.{row}
 use Rattle.ccr_ledger.specs.declared.cards.Card.{Card}
 use Rattle.ccr_ledger.specs.Books.{Books, card_at, suspended_at}
@@ -33,7 +34,7 @@ use Rattle.ccr_ledger.specs.Firing.{after_fire, resumed_card}
 use Rattle.ccr_ledger.specs.Events.{after_last, after_discard, after_dropped, after_stop, after_yield, after_end, after_event, empty_books, is_yield}
 use Rattle.ccr_ledger.specs.Kept.{HasSizes, Keeps, KeepsPorts, card_of}
 use Rattle.ccr_ledger.proofs.Tables.{row-with_row}
-use Rattle.ccr_ledger.proofs.NewNames.{fresh_post, held_alone}
+use Rattle.ccr_ledger.proofs.HeldNames.{held_alone}
 use Rattle.ccr_ledger.proofs.PortsLeft.{AreHeld, pattern_left, site_left}
 use Rattle.ccr_ledger.proofs.Empty.{row-none}
 use Rattle.ccr_ledger.proofs.CardTables.{ports-cuts}

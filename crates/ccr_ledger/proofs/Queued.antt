@@ -1,5 +1,5 @@
 -- Each allowed event keeps what stands in each queue.
-use Rattle.std.proofs.Common.{◌≡◌, ℕ, ◌<◌, true, false, List, [], ◌∷◌, ◌++◌, length, drop, Option, Some, None, option_to_list, refl, sym, ap, ◌∙◌, append-nil, arith}
+use Rattle.std.proofs.Common.{◌≡◌, ℕ, ◌<◌, true, false, List, [], ◌∷◌, ◌++◌, length, drop, Option, Some, None, option_to_list, refl, sym, ap, ◌∙◌, arith}
 use Rattle.std.specs.Prelude.{◌==◌, if◌then◌else◌}
 use Rattle.ccr_base.specs.declared.names.TaskId.{TaskId}
 use Rattle.ccr_base.specs.declared.names.MsgId.{MsgId}
@@ -9,20 +9,18 @@ use Rattle.ccr_base.specs.Names.{has_task, without}
 use Rattle.ccr_wiring.specs.declared.parts.Parts.{Parts}
 use Rattle.ccr_model.specs.declared.history.Event.{Event}
 use Rattle.ccr_model.specs.declared.history.Event.TheVariants.{Post, Fire, Admit, Put, Start, End}
-use Rattle.ccr_model.specs.Firings.{firing_of, put, put_by, started, started_by, dropped, dropped_by}
-use Rattle.ccr_model.specs.Tasks.{is_for_queue, queued}
+use Rattle.ccr_model.specs.Firings.{put, started, dropped}
+use Rattle.ccr_model.specs.Tasks.{queued}
 use Rattle.ccr_model.specs.Legal.{IsAllowed, IsLegal}
 use Rattle.ccr_base.proofs.Booleans.{refuted, no_both, same_number}
 use Rattle.ccr_base.proofs.Options.{head_rest}
-use Rattle.ccr_model.proofs.OneMoreEvent.{put-push, started-push, dropped-push}
-use Rattle.ccr_model.proofs.TasksLeft.{filter_on}
 use Rattle.ccr_model.proofs.TaskLists.{has_oldest, not_more, none_gone}
 use Rattle.ccr_model.proofs.TaskSteps.{queued-start, queued-put, queued-fire}
 use Rattle.ccr_model.proofs.WhoWasPut.{ArePlaced-legal, PutFacts-allowed, QueuedFacts-queued, StartFacts-allowed, new_drop}
 use Rattle.ccr_model.proofs.AllowedDrops.{drop_allowed}
 use Rattle.ccr_model.proofs.FiredTasks.{fired_has, placement_fired}
-use Rattle.ccr_model.proofs.AllowedFirings.{FiresSo-allowed, firings-other}
-use Rattle.ccr_model.proofs.Queued.{queued_once}
+use Rattle.ccr_model.proofs.AllowedFirings.{FiresSo-allowed}
+use Rattle.ccr_model.proofs.Queued.{queued_once, queued-other}
 use Rattle.ccr_ledger.specs.Rows.{row, with_row}
 use Rattle.ccr_ledger.specs.Books.{Books}
 use Rattle.ccr_ledger.specs.Events.{after_dropped, after_event}
@@ -49,11 +47,6 @@ queued-left : (w : Parts) (h : List Event) (t : TaskId) (b : Books) (q : ℕ) (o
 queued-left w h t b q others legal sizes known facts first k low =
     let own = own_queue w h t b facts q (has_oldest (queued w h q) others t first) in
     row-left b.queued (queued w h) facts.card.queue k t others (omega (arith, low, sizes.queued)) (known k low) (ap (queued w h) own ∙ first) (queued_once w h facts.card.queue legal) (queued_elsewhere w h t b facts k)
-
--- an event that neither puts, starts nor drops leaves the queues
-queued-other : (w : Parts) (h : List Event) (e : Event) → firing_of e ≡ [] → put_by e ≡ [] → started_by e ≡ [] → dropped_by e ≡ [] → (q : ℕ) → queued w (h ++ e ∷ []) q ≡ queued w h q
-queued-other w h e none no_put no_start no_drop q =
-    rw (put-push, started-push, dropped-push, no_put, no_start, no_drop, append-nil (put h), append-nil (started h), append-nil (dropped h)) (filter_on (is_for_queue w (h ++ e ∷ []) q) (is_for_queue w h q) (without (put h) (started h ++ dropped h)) (λ u among. rw (firings-other h e none) refl))
 
 -- who fires anew wasn't put
 unput : (w : Parts) (h : List Event) (t : TaskId) (s : Spot) (ms : List MsgId) (cs : List TaskId) → IsLegal w h → IsAllowed w h (Fire t s ms cs) → has_task (put h) t ≡ false
@@ -110,8 +103,8 @@ module _ (w : Parts) (h : List Event) (t : TaskId) (b : Books) (legal : IsLegal 
 pub queued-event : (w : Parts) (h : List Event) (e : Event) (b : Books) → IsLegal w h → IsAllowed w h e → HasSizes w b → KeepsTasks w h b → SaysQueued w h b.queued → SaysQueued w (h ++ e ∷ []) (after_event w e b).queued
 queued-event w h (Put t d) b legal allowed sizes tasks known q low = queued-event-put w h t b legal sizes tasks known d allowed q low
 queued-event w h (Start t a) b legal allowed sizes tasks known q low = queued-event-start w h t b legal sizes tasks known a allowed q low
-queued-event w h (Post m) b legal allowed sizes tasks known q low = ap (λ (r : Rows). row r.queued q) (rows-post m b) ∙ (known q low ∙ sym (queued-other w h (Post m) refl refl refl refl q))
+queued-event w h (Post m) b legal allowed sizes tasks known q low = ap (λ (r : Rows). row r.queued q) (rows-post m b) ∙ (known q low ∙ sym (queued-other w h q (Post m) refl refl refl refl))
 queued-event w h (Fire t (Branch n) ms cs) b legal allowed sizes tasks known q low = ap (λ (r : Rows). row r.queued q) (rest-branch w t n ms cs b) ∙ (known q low ∙ sym (queued-fire w h q t (Branch n) ms cs (unput w h t (Branch n) ms cs legal allowed)))
 queued-event w h (Fire t (Site n k) ms cs) b legal allowed sizes tasks known q low = ap (λ (r : Rows). row r.queued q) (rest-site w t n k ms cs b) ∙ (known q low ∙ sym (queued-fire w h q t (Site n k) ms cs (unput w h t (Site n k) ms cs legal allowed)))
-queued-event w h (Admit t) b legal allowed sizes tasks known q low = ap (λ (r : Rows). row r.queued q) (rest-admit w t b) ∙ (known q low ∙ sym (queued-other w h (Admit t) refl refl refl refl q))
-queued-event w h (End t how) b legal allowed sizes tasks known q low = ap (λ (r : Rows). row r.queued q) (rest-end w t how b) ∙ (known q low ∙ sym (queued-other w h (End t how) refl refl refl refl q))
+queued-event w h (Admit t) b legal allowed sizes tasks known q low = ap (λ (r : Rows). row r.queued q) (rest-admit w t b) ∙ (known q low ∙ sym (queued-other w h q (Admit t) refl refl refl refl))
+queued-event w h (End t how) b legal allowed sizes tasks known q low = ap (λ (r : Rows). row r.queued q) (rest-end w t how b) ∙ (known q low ∙ sym (queued-other w h q (End t how) refl refl refl refl))

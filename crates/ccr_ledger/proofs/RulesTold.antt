@@ -17,7 +17,7 @@ use Rattle.ccr_model.specs.Live.{is_none_of}
 use Rattle.ccr_model.specs.Rules.{is_first, is_oldest_waiting, needs_no_admission, may_put, is_oldest_queued}
 use Rattle.ccr_model.specs.Legal.{IsLegal}
 use Rattle.ccr_base.proofs.Booleans.{and_false}
-use Rattle.ccr_model.proofs.SameNames.{same_task-sym}
+use Rattle.ccr_base.proofs.SameNames.{same_task-sym}
 use Rattle.ccr_model.proofs.TasksLeft.{filter_on}
 use Rattle.ccr_model.proofs.WhoWasPut.{ArePlaced-legal}
 use Rattle.ccr_model.proofs.Ending.{AreEnded-legal}

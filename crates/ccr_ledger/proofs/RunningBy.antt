@@ -1,24 +1,22 @@
 -- Each allowed event keeps which actor runs what.
-use Rattle.std.proofs.Common.{◌≡◌, ℕ, Bool, true, false, not, List, [], ◌∷◌, ◌++◌, filter, flat_map, refl, sym, ap, ◌∙◌, append-nil, arith}
+use Rattle.std.proofs.Common.{◌≡◌, ℕ, Bool, true, false, not, List, [], ◌∷◌, ◌++◌, filter, flat_map, refl, sym, ap, ◌∙◌, append-nil}
 use Rattle.std.specs.Prelude.{◌==◌, if◌then◌else◌}
-use Rattle.std.proofs.lemmas.Grind.{common_steps}
 use Rattle.ccr_base.specs.declared.names.TaskId.{TaskId}
 use Rattle.ccr_base.specs.declared.names.Spot.TheVariants.{Branch, Site}
 use Rattle.ccr_base.specs.Names.{same_task, has_task, without}
 use Rattle.ccr_wiring.specs.declared.parts.Parts.{Parts}
 use Rattle.ccr_model.specs.declared.history.Event.{Event}
 use Rattle.ccr_model.specs.declared.history.Event.TheVariants.{Post, Fire, Admit, Put, Start, End}
-use Rattle.ccr_model.specs.declared.history.EndHow.{EndHow}
 use Rattle.ccr_model.specs.Firings.{ended, ended_by}
 use Rattle.ccr_model.specs.Tasks.{running_by, started_as}
 use Rattle.ccr_model.specs.Legal.{IsAllowed, IsLegal}
 use Rattle.ccr_base.proofs.Filters.{filter_swap}
 use Rattle.ccr_model.proofs.OneMoreEvent.{ended-push}
-use Rattle.ccr_model.proofs.TasksLeft.{without_both}
 use Rattle.ccr_model.proofs.TaskLists.{without-append}
 use Rattle.ccr_model.proofs.WhoWasPut.{ArePlaced-legal, StartFacts-allowed}
 use Rattle.ccr_model.proofs.Ending.{RunningFacts-allowed}
 use Rattle.ccr_model.proofs.FiredTasks.{placement_fired}
+use Rattle.ccr_model.proofs.RunningTasks.{starts-push, running_by-end}
 use Rattle.ccr_ledger.specs.declared.cards.Runner.{Runner}
 use Rattle.ccr_ledger.specs.Books.{Books, runners, runners_of}
 use Rattle.ccr_ledger.specs.Events.{after_event, stopped}
@@ -30,18 +28,12 @@ use Rattle.ccr_ledger.proofs.TaskRows.{Rows, rows-post, rest-branch, rest-site, 
 abbrev pub SaysRunners : List Event → List Runner → Type 0
 SaysRunners h rs = (a : ℕ) → runners_of a rs ≡ running_by h a
 
-started_as-push : (a : ℕ) (h : List Event) (e : Event) → flat_map (started_as a) (h ++ e ∷ []) ≡ flat_map (started_as a) h ++ started_as a e
-started_as-push a h e = grind (arith, common_steps)
-
 -- who runs for the actor, after one more event
 running_by-other : (h : List Event) (e : Event) (a : ℕ) → started_as a e ≡ [] → ended_by e ≡ [] → running_by (h ++ e ∷ []) a ≡ running_by h a
-running_by-other h e a no_start no_end = rw (started_as-push a h e, ended-push, no_start, no_end, append-nil (flat_map (started_as a) h), append-nil (ended h)) refl
-
-running_by-end : (h : List Event) (t : TaskId) (how : EndHow) (a : ℕ) → running_by (h ++ End t how ∷ []) a ≡ without (running_by h a) (t ∷ [])
-running_by-end h t how a = rw (started_as-push a h (End t how), ended-push, append-nil (flat_map (started_as a) h)) (without_both (flat_map (started_as a) h) (ended h) (t ∷ []))
+running_by-other h e a no_start no_end = rw (starts-push h e a, ended-push, no_start, no_end, append-nil (flat_map (started_as a) h), append-nil (ended h)) refl
 
 running_by-start : (h : List Event) (t : TaskId) (by a : ℕ) → has_task (ended h) t ≡ false → running_by (h ++ Start t by ∷ []) a ≡ running_by h a ++ (if by == a then t ∷ [] else [])
-running_by-start h t by a out = rw (started_as-push a h (Start t by), ended-push, append-nil (ended h)) (without-append (flat_map (started_as a) h) (if by == a then t ∷ [] else []) (ended h) ∙ ap (λ ts. running_by h a ++ ts) (of_test (by == a)))
+running_by-start h t by a out = rw (starts-push h (Start t by) a, ended-push, append-nil (ended h)) (without-append (flat_map (started_as a) h) (if by == a then t ∷ [] else []) (ended h) ∙ ap (λ ts. running_by h a ++ ts) (of_test (by == a)))
   where
     of_test : (is : Bool) → without (if is then t ∷ [] else []) (ended h) ≡ (if is then t ∷ [] else [])
     of_test true = rw out refl

@@ -21,7 +21,7 @@ use Rattle.ccr_model.proofs.Ending.{AreEnded-legal}
 use Rattle.ccr_model.proofs.AllowedFirings.{WaitingFacts-waiting}
 use Rattle.ccr_model.proofs.LegalParts.{legal_push}
 use Rattle.ccr_model.proofs.OneMoreEvent.{put-push, started-push, dropped-push, ended-push, ever_admitted-push, cut-push}
-use Rattle.ccr_model.proofs.SameNames.{same_task-is, same_task-sym}
+use Rattle.ccr_base.proofs.SameNames.{same_task-is, same_task-sym}
 use Rattle.ccr_model.proofs.TaskLists.{among_right, not_within}
 use Rattle.ccr_model.proofs.WhoWasPut.{ArePlaced-legal, PutFacts-allowed, new_drop}
 use Rattle.ccr_model.proofs.TasksLeft.{has_task-append}

@@ -24,7 +24,7 @@ use Rattle.ccr_model.proofs.Members.{Among, Among-either, Among-kept, Among-take
 use Rattle.ccr_base.proofs.Options.{some_of}
 use Rattle.ccr_base.specs.Lists.{has_number, are_apart}
 use Rattle.ccr_model.proofs.PostNames.{times, posted_once}
-use Rattle.ccr_model.proofs.SameNames.{same_message-is}
+use Rattle.ccr_base.proofs.SameNames.{same_message-is}
 use Rattle.ccr_model.proofs.TakenOnce.{joined_some, selection_some, times-filter, times-two}
 use Rattle.ccr_model.proofs.MessageNames.{found_once}
 use Rattle.ccr_ledger.specs.Rows.{row, with_row}

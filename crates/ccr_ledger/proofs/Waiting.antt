@@ -5,11 +5,7 @@ use Rattle.std.specs.Option.{option_map_or}
 use Rattle.ccr_base.specs.declared.names.TaskId.{TaskId}
 use Rattle.ccr_base.specs.declared.names.MsgId.{MsgId}
 use Rattle.ccr_base.specs.declared.names.Spot.TheVariants.{Branch, Site}
-use Rattle.ccr_base.specs.declared.policies.Group.{Group}
-use Rattle.ccr_base.specs.declared.policies.Group.TheVariants as groups
 use Rattle.ccr_base.specs.Names.{same_task, has_task, without}
-use Rattle.ccr_wiring.specs.declared.parts.Kind.{Kind}
-use Rattle.ccr_wiring.specs.declared.parts.Kind.TheVariants as kinds
 use Rattle.ccr_wiring.specs.declared.parts.Parts.{Parts}
 use Rattle.ccr_wiring.specs.Groups.{may_have}
 use Rattle.ccr_wiring.specs.Valid.{IsValid}
@@ -26,16 +22,17 @@ use Rattle.ccr_model.specs.Legal.{IsAllowed, IsLegal}
 use Rattle.ccr_model.proofs.Allowing.{OneName-legal}
 use Rattle.ccr_model.proofs.ExclusiveRootsAreAlone.{ever_admitted_fired}
 use Rattle.ccr_base.proofs.Booleans.{refuted, no_both, or_left, or_right, same_number, eq-self}
-use Rattle.ccr_model.proofs.Cutting.{fired_by-append}
+use Rattle.ccr_model.proofs.Cutting.{fired_by-append, cut_fired, no_teardown_outside}
 use Rattle.ccr_model.proofs.FiredTasks.{IsFired, fired_has, placement_fired}
 use Rattle.ccr_model.proofs.AllowedFirings.{FiresSo-allowed, WaitingFacts-waiting}
 use Rattle.ccr_base.proofs.Options.{some_of}
 use Rattle.ccr_model.proofs.PostNames.{refused_not}
 use Rattle.ccr_model.proofs.OneMoreEvent.{ever_admitted-push, cut-push}
-use Rattle.ccr_model.proofs.SameNames.{same_task-self}
-use Rattle.ccr_model.proofs.TasksLeft.{without_both, without_middle}
+use Rattle.ccr_base.proofs.SameNames.{same_task-self}
+use Rattle.ccr_model.proofs.TasksLeft.{without_both}
 use Rattle.ccr_model.proofs.TaskLists.{first_rest, has_oldest, not_more, without-append, without_none, none_gone}
 use Rattle.ccr_model.proofs.TasksOnce.{waiting_once, waits_in_one}
+use Rattle.ccr_model.proofs.WaitingTasks.{waiting-admit}
 use Rattle.ccr_ledger.specs.Rows.{row, with_row}
 use Rattle.ccr_ledger.specs.Books.{Books}
 use Rattle.ccr_ledger.specs.Firing.{after_clear}
@@ -45,7 +42,6 @@ use Rattle.ccr_ledger.proofs.Tables.{length-with_row, row-with_row}
 use Rattle.ccr_ledger.proofs.RowMoves.{row-left, row-entered}
 use Rattle.ccr_ledger.proofs.TaskRows.{Rows, rows-post, rows-branch, rows-admit, rest-site, rest-put, rest-start, rest-end}
 use Rattle.ccr_ledger.proofs.TaskCards.{CardFacts-fired, same_placement}
-use Rattle.ccr_ledger.proofs.FiredOnce.{cut_fired}
 
 -- the rows say who waits
 abbrev pub SaysWaiting : Parts → List Event → List (List TaskId) → Type 0
@@ -66,25 +62,10 @@ waiting-other : (w : Parts) (h : List Event) (e : Event) (i : ℕ) → fired_by 
 waiting-other w h e i no_fire no_admit no_cut =
     rw (fired_by-append w (is_placement_in i) h (e ∷ []), ever_admitted-push h e, cut-push h e, no_fire, no_admit, no_cut, append-nil (fired_by w (is_placement_in i) h), append-nil (ever_admitted h), append-nil (cut h)) refl
 
-waiting-admit : (w : Parts) (h : List Event) (t : TaskId) (i : ℕ) → waiting w (h ++ Admit t ∷ []) i ≡ without (waiting w h i) (t ∷ [])
-waiting-admit w h t i =
-    rw (fired_by-append w (is_placement_in i) h (Admit t ∷ []), ever_admitted-push h (Admit t), cut-push h (Admit t), append-nil (fired_by w (is_placement_in i) h), append-nil (cut h)) (without_middle (fired_by w (is_placement_in i) h) (ever_admitted h) (cut h) t)
-
 -- those that are cut leave, and a new task enters
 lists_fire : (fs news ins gone cs : List TaskId) → without news (ins ++ (gone ++ cs)) ≡ news → without (fs ++ news) (ins ++ (gone ++ cs)) ≡ without (without fs (ins ++ gone)) cs ++ news
 lists_fire fs news ins gone cs stay =
     without-append fs news (ins ++ (gone ++ cs)) ∙ (ap (λ ts. without fs (ins ++ (gone ++ cs)) ++ ts) stay ∙ ap (λ ts. ts ++ news) (ap (λ all. without fs all) (sym (append_assoc ins gone cs)) ∙ without_both fs (ins ++ gone) cs))
-
--- no branch outside Interleaves tears down
-no_teardown : (k : Kind) (g : Group) → may_have k g ≡ true → is_interleave k ≡ false → is_teardown g ≡ false
-no_teardown k groups.Once may is = refl
-no_teardown k groups.Always may is = refl
-no_teardown k groups.Choice may is = refl
-no_teardown k groups.Exclusive may is = refl
-no_teardown k groups.Concurrent may is = refl
-no_teardown kinds.Receive groups.Teardown may is = absurd (cc)
-no_teardown kinds.Choice groups.Teardown may is = absurd (cc)
-no_teardown kinds.Interleave groups.Teardown may is = absurd (cc)
 
 -- who fires anew was neither admitted nor cut, nor is he now
 module _ (w : Parts) (h : List Event) (t : TaskId) (n : ℕ) (ms : List MsgId) (cs : List TaskId) (s : Placement) (legal : IsLegal w h) (allowed : IsAllowed w h (Fire t (Branch n) ms cs)) (at : placement w n ≡ Some s) where
@@ -144,7 +125,7 @@ module _ (w : Parts) (h : List Event) (t : TaskId) (n : ℕ) (ms : List MsgId) (
       known ∙ (sym (none_gone (waiting w h i)) ∙ (ap (λ ts. without (waiting w h i) ts) (sym none) ∙ sym (append-nil (without (waiting w h i) cs))))
     where
       none : cs ≡ []
-      none = cuts_so ∙ ap (λ b. if b then waiting w h s.domain else []) (no_teardown s.kind s.branch.group may is)
+      none = cuts_so ∙ ap (λ b. if b then waiting w h s.domain else []) (no_teardown_outside s.kind s.branch.group may is)
 
   waiting-event-branch : IsValid w → (b : Books) → HasSizes w b → SaysWaiting w h b.waiting → SaysWaiting w (h ++ Fire t (Branch n) ms cs ∷ []) (after_event w (Fire t (Branch n) ms cs) b).waiting
   waiting-event-branch valid b sizes known i low =

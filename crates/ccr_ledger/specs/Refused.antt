@@ -1,4 +1,4 @@
--- What stands after an event for which there was no memory.
+-- What stands after an event that found the tables out of memory.
 use Rattle.std.specs.Prelude.{◌≡◌, List}
 use Rattle.ccr_base.specs.declared.names.TaskId.{TaskId}
 use Rattle.ccr_base.specs.declared.names.Spot.{Spot}

@@ -17,7 +17,7 @@ use Rattle.ccr_model.specs.Rules.{may_put, drop_by, drop_at}
 use Rattle.ccr_model.specs.Legal.{IsAllowed}
 use Rattle.ccr_model.proofs.PostNames.{refused_not}
 use Rattle.ccr_base.proofs.Options.{some_then}
-use Rattle.ccr_model.proofs.SameNames.{same_task-is}
+use Rattle.ccr_base.proofs.SameNames.{same_task-is}
 
 -- what an allowed drop says
 pub record DropFacts (w : Parts) (h : List Event) (t x : TaskId) : Type 0 where

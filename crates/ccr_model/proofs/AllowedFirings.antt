@@ -23,7 +23,7 @@ use Rattle.ccr_model.proofs.Allowing.{OneName}
 use Rattle.ccr_model.proofs.OneMoreEvent.{firings-push}
 use Rattle.ccr_base.proofs.Options.{some_of}
 use Rattle.ccr_model.proofs.Members.{Among}
-use Rattle.ccr_model.proofs.SameNames.{same_task-is, same_task-self, same_task-sym}
+use Rattle.ccr_base.proofs.SameNames.{same_task-is, same_task-self, same_task-sym}
 use Rattle.ccr_model.proofs.TasksLeft.{of_without, out_left}
 use Rattle.ccr_base.proofs.Booleans.{not_true, both, neither, or_left, or_right, refuted, no_both}
 use Rattle.ccr_model.proofs.FiredTasks.{IsFired, find_last, fired_has}

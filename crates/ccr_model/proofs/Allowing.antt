@@ -39,7 +39,7 @@ use Rattle.ccr_model.proofs.Stable.{firing_named-append, firings-append}
 use Rattle.ccr_base.proofs.Options.{some_of, IfSome-or, some-below, none-above}
 use Rattle.ccr_model.proofs.Members.{Among, Among-last}
 use Rattle.ccr_model.proofs.FirstNames.{length-names_of}
-use Rattle.ccr_model.proofs.SameNames.{same_task-self, same_message-self, same_value-self}
+use Rattle.ccr_base.proofs.SameNames.{same_task-self, same_message-self, same_value-self}
 use Rattle.ccr_base.proofs.Booleans.{both, or_right, eq-self}
 use Rattle.ccr_model.proofs.FiredTasks.{find_last}
 

@@ -32,7 +32,7 @@ use Rattle.ccr_model.proofs.OneMoreEvent.{put-push, ever_admitted-push, cut-push
 use Rattle.ccr_model.proofs.LegalParts.{along_legal, onward, Parted-legal}
 use Rattle.ccr_base.proofs.Options.{some_of}
 use Rattle.ccr_base.proofs.Booleans.{both, refuted, no_both, same_number}
-use Rattle.ccr_model.proofs.FiredTasks.{IsFired}
+use Rattle.ccr_model.proofs.FiredTasks.{IsFired, AreFired, IsFired-append}
 use Rattle.ccr_model.specs.Interleaves.{is_placement_in, is_teardown_in, tears_down, fired_in}
 use Rattle.ccr_model.proofs.TaskLists.{first_rest, has_oldest, of_more, among_left, not_more, of_one, not_one, not_within}
 use Rattle.ccr_model.proofs.WhoWasPut.{ArePlaced, ArePlaced-legal, PutFacts, PutFacts-allowed}
@@ -226,3 +226,30 @@ cut_not_put w h legal = (CutFacts-legal w h legal).not_put
 
 pub cut_not_started : (w : Parts) (h : List Event) → IsLegal w h → (t : TaskId) → has_task (cut h) t ≡ true → has_task (started h) t ≡ false
 cut_not_started w h legal t is = not_within (started h) (put h) t ((ArePlaced-legal w h legal).lists.put_started t) (cut_not_put w h legal t is)
+
+-- whom an allowed event cuts had fired
+pub cut_now_fired : (w : Parts) (h : List Event) (e : Event) → IsLegal w h → IsAllowed w h e → AreFired h (cut (e ∷ []))
+cut_now_fired w h (Fire t s ms cs) legal allowed u is = let waits = cut_by w h t s ms cs (OneName-legal w h legal) allowed u is in (waits.1.firing, waits.1.is_firing)
+cut_now_fired w h (Post m) legal allowed u is = absurd (cc)
+cut_now_fired w h (Admit t) legal allowed u is = absurd (cc)
+cut_now_fired w h (Put t d) legal allowed u is = absurd (cc)
+cut_now_fired w h (Start t a) legal allowed u is = absurd (cc)
+cut_now_fired w h (End t how) legal allowed u is = absurd (cc)
+
+-- and so had all who were cut
+pub cut_fired : (w : Parts) (h : List Event) → IsLegal w h → AreFired h (cut h)
+cut_fired w = along_legal w (λ h. AreFired h (cut h)) kept (λ u is. absurd (cc))
+  where
+    kept : (h : List Event) (e : Event) → IsLegal w h → IsAllowed w h e → AreFired h (cut h) → AreFired (h ++ e ∷ []) (cut (h ++ e ∷ []))
+    kept h e legal allowed known u is = IsFired-append h (e ∷ []) u (of_more (cut h) (cut (e ∷ [])) u _ (subst (λ ts. has_task ts u ≡ true) (cut-push h e) is) (known u) (cut_now_fired w h e legal allowed u))
+
+-- no branch outside Interleaves tears down
+pub no_teardown_outside : (k : Kind) (g : Group) → may_have k g ≡ true → is_interleave k ≡ false → is_teardown g ≡ false
+no_teardown_outside k groups.Once may is = refl
+no_teardown_outside k groups.Always may is = refl
+no_teardown_outside k groups.Choice may is = refl
+no_teardown_outside k groups.Exclusive may is = refl
+no_teardown_outside k groups.Concurrent may is = refl
+no_teardown_outside kinds.Receive groups.Teardown may is = absurd (cc)
+no_teardown_outside kinds.Choice groups.Teardown may is = absurd (cc)
+no_teardown_outside kinds.Interleave groups.Teardown may is = absurd (cc)

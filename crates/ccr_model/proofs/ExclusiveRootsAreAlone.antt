@@ -28,7 +28,7 @@ use Rattle.ccr_model.proofs.Allowing.{head_passes}
 use Rattle.ccr_model.proofs.LegalIsCovered.{AreStarted, AreStarted_kept, running_started}
 use Rattle.ccr_model.proofs.OneMoreEvent.{last-push, ever_admitted-push}
 use Rattle.ccr_base.proofs.Options.{some_of, some_then, head_rest}
-use Rattle.ccr_model.proofs.SameNames.{same_task-is, same_task-self}
+use Rattle.ccr_base.proofs.SameNames.{same_task-is, same_task-self}
 use Rattle.ccr_base.proofs.Booleans.{both, or_left, or_right}
 use Rattle.ccr_model.proofs.FiredTasks.{IsFired, AreFired, IsFired-append, none_fired, placement_fired, placement_stays, root_stays}
 

@@ -12,7 +12,7 @@ use Rattle.ccr_model.specs.Sites.{root_of}
 use Rattle.ccr_model.specs.TaskData.{placement_of}
 use Rattle.ccr_model.proofs.Stable.{firing_named-append, root_at-append}
 use Rattle.ccr_base.proofs.Options.{some_then, some_map}
-use Rattle.ccr_model.proofs.SameNames.{same_task-is, same_task-self}
+use Rattle.ccr_base.proofs.SameNames.{same_task-is, same_task-self}
 
 -- the task fired
 abbrev pub IsFired : List Event → TaskId → Type 0

@@ -5,7 +5,7 @@ use Rattle.ccr_base.specs.declared.messages.Msg.{Msg}
 use Rattle.ccr_base.specs.Names.{same_message, same_lists}
 use Rattle.ccr_model.specs.Selection.{names_of}
 use Rattle.ccr_base.proofs.Booleans.{both}
-use Rattle.ccr_model.proofs.SameNames.{same_message-is}
+use Rattle.ccr_base.proofs.SameNames.{same_message-is}
 
 pub names_of-take : (n : ℕ) (messages : List Msg) → names_of (take n messages) ≡ take n (names_of messages)
 names_of-take zero messages = refl

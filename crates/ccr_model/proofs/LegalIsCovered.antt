@@ -28,7 +28,7 @@ use Rattle.ccr_model.proofs.Stable.{play_of-append}
 use Rattle.ccr_model.proofs.Allowing.{head_passes}
 use Rattle.ccr_model.proofs.OneMoreEvent.{started-push}
 use Rattle.ccr_base.proofs.Options.{some_of, head_rest}
-use Rattle.ccr_model.proofs.SameNames.{same_task-is, same_task-self, same_task-sym}
+use Rattle.ccr_base.proofs.SameNames.{same_task-is, same_task-self, same_task-sym}
 use Rattle.ccr_model.proofs.TasksLeft.{of_without, filter_on, distinct-filter, distinct-push}
 use Rattle.ccr_base.proofs.Booleans.{not_true, both, or_left, or_right}
 use Rattle.ccr_model.proofs.FiredTasks.{IsFired, AreFired, IsFired-append, placement_fired}
@@ -38,7 +38,7 @@ pub record AreStarted (h : List Event) : Type 0 where
   pub named : AreFired h (started h)
   pub once : are_distinct_tasks (started h) ≡ true
 
-no_member : (ts : List TaskId) (x u : TaskId) → has_task ts x ≡ false → has_task ts u ≡ true → same_task x u ≡ false
+pub no_member : (ts : List TaskId) (x u : TaskId) → has_task ts x ≡ false → has_task ts u ≡ true → same_task x u ≡ false
 no_member ts x u out within = of_test (same_task x u) refl
   where
     of_test : (b : Bool) → same_task x u ≡ b → same_task x u ≡ false

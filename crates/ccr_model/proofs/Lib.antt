@@ -4,7 +4,6 @@ mod WorkedTasks
 mod WorkedDomains
 mod WrongEvents
 pub mod Members
-pub mod SameNames
 pub mod SameLists
 pub mod TasksLeft
 pub mod OneMoreEvent
@@ -39,3 +38,6 @@ pub mod TakenWerePosted
 pub mod Queued
 pub mod TasksOnce
 pub mod NamesLeft
+pub mod PostedNames
+pub mod RunningTasks
+pub mod WaitingTasks

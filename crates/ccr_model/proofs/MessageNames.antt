@@ -13,7 +13,7 @@ use Rattle.ccr_model.specs.Legal.{IsLegal}
 use Rattle.ccr_model.specs.Posts.{posts, posted, taken, held}
 use Rattle.ccr_model.proofs.Members.{Among}
 use Rattle.ccr_model.proofs.PostNames.{times, posted_once}
-use Rattle.ccr_model.proofs.SameNames.{same_message-self}
+use Rattle.ccr_base.proofs.SameNames.{same_message-self}
 use Rattle.ccr_model.proofs.TakenOnce.{times_named, times-filter}
 
 -- the messages without those of these names

@@ -14,6 +14,9 @@ use Rattle.ccr_model.specs.Counts.{is_shed as is_shed_end}
 pub posts-push : (h : List Event) (e : Event) → posts (h ++ e ∷ []) ≡ posts h ++ post_of e
 posts-push h e = grind (arith, common_steps)
 
+pub posts-append : (h es : List Event) → posts (h ++ es) ≡ posts h ++ posts es
+posts-append h es = grind (arith, common_steps)
+
 pub firings-push : (h : List Event) (e : Event) → firings (h ++ e ∷ []) ≡ firings h ++ firing_of e
 firings-push h e = grind (arith, common_steps)
 

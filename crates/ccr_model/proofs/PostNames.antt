@@ -1,6 +1,6 @@
 -- No two posts of a legal history have one name.
 use Rattle.std.proofs.Common.{◌≡◌, ℕ, ◌+◌, ◌<◌, ◌≤◌, Bool, true, false, List, [], ◌∷◌, ◌++◌, length, filter, Option, None, refl, arith, subst, append_assoc, append-nil}
-use Rattle.std.specs.Prelude.{if◌then◌else◌}
+use Rattle.std.specs.Prelude.{if◌then◌else◌, ◌==◌}
 use Rattle.std.proofs.lemmas.Grind.{common_steps}
 use Rattle.std.proofs.lemmas.Bool.Decides.{nat_tests}
 use Rattle.ccr_base.specs.declared.names.MsgId.{MsgId}
@@ -10,12 +10,13 @@ use Rattle.ccr_wiring.specs.declared.parts.Parts.{Parts}
 use Rattle.ccr_model.specs.declared.history.Event.{Event}
 use Rattle.ccr_model.specs.declared.history.Event.TheVariants.{Post, Fire, Admit, Put, Start, End}
 use Rattle.ccr_base.specs.Names.{same_message}
-use Rattle.ccr_model.specs.Posts.{posts, is_script_of, is_message_of, is_task_message}
+use Rattle.ccr_model.specs.Posts.{posts, is_script_of, is_message_of, made_by_poster}
 use Rattle.ccr_model.specs.declared.rule.Rule.{Rule}
 use Rattle.ccr_model.specs.Rules.{refusal_of_post, refused}
 use Rattle.ccr_model.specs.Legal.{IsAllowed, IsLegal, IsLegalAfter}
 use Rattle.ccr_model.proofs.OneMoreEvent.{posts-push}
-use Rattle.ccr_model.proofs.SameNames.{same_message-is}
+use Rattle.ccr_base.proofs.SameNames.{same_message-is}
+use Rattle.ccr_base.specs.declared.names.TaskId.{TaskId}
 
 -- what the empty history has and each allowed event keeps, each legal history has
 along_after : (w : Parts) (P : List Event → Type 0) → ((h : List Event) (e : Event) → P h → IsAllowed w h e → P (h ++ e ∷ [])) → (past es : List Event) → P past → IsLegalAfter w past es → P (past ++ es)
@@ -28,10 +29,6 @@ along w P keeps start h legal = along_after w P keeps [] h start legal
 -- how often the name stands among the messages
 abbrev pub times : MsgId → List Msg → ℕ
 times name ms = length (filter (λ (m : Msg). same_message m.id name) ms)
-
--- how many messages are of tasks
-abbrev pub task_messages : List Msg → ℕ
-task_messages ms = length (filter (λ (m : Msg). is_task_message m.id) ms)
 
 -- how many messages the sender of the name sent
 abbrev pub sent_by : MsgId → List Msg → ℕ
@@ -55,6 +52,16 @@ refused_not false rule o is = absurd (cc)
 place_next : (w : Parts) (h : List Event) (m : Msg) (name : MsgId) → refusal_of_post w h m name ≡ None → place_of name ≡ sent_by name (posts h)
 place_next w h m (Script a k) is = grind (arith, nat_tests)
 place_next w h m (Task t k) is = grind (arith, nat_tests)
+
+-- one more message counts for the poster whose script it is of, and for no other
+pub made_by_poster-push : (ms : List Msg) (m : Msg) (poster : ℕ) → made_by_poster (ms ++ m ∷ []) poster ≡ made_by_poster ms poster + (if is_script_of poster m.id then 1 else 0)
+made_by_poster-push ms m poster = grind (arith, common_steps)
+
+pub made_by_poster-other : (ms : List Msg) (m : Msg) (poster actor index : ℕ) → m.id ≡ Script actor index → (actor == poster) ≡ false → made_by_poster (ms ++ m ∷ []) poster ≡ made_by_poster ms poster
+made_by_poster-other ms m poster actor index named apart = let out : is_script_of poster m.id ≡ false = rw named apart in grind (arith, made_by_poster-push ms m poster, out)
+
+pub made_by_poster-task : (ms : List Msg) (m : Msg) (poster : ℕ) (t : TaskId) (index : ℕ) → m.id ≡ Task t index → made_by_poster (ms ++ m ∷ []) poster ≡ made_by_poster ms poster
+made_by_poster-task ms m poster t index named = let out : is_script_of poster m.id ≡ false = rw named refl in grind (arith, made_by_poster-push ms m poster, out)
 
 pub times_more : (name : MsgId) (ms : List Msg) (m : Msg) → times name (ms ++ m ∷ []) ≡ times name ms + (if same_message m.id name then 1 else 0)
 times_more name ms m = grind (arith, common_steps)

@@ -1,6 +1,6 @@
 -- Where no event comes first, none is allowed.
 use Rattle.std.proofs.Common.{◌≡◌, ℕ, zero, suc, ◌+◌, ◌-◌, ◌<◌, ◌≤◌, inl, inr, Bool, true, false, not, ◌&&◌, ◌||◌, List, [], ◌∷◌, ◌++◌, length, map, take, Option, Some, None, refl, sym, arith, ap, subst}
-use Rattle.std.specs.Prelude.{◌==◌, if◌then◌else◌, find, nat_lt, option_map, option_and_then}
+use Rattle.std.specs.Prelude.{◌==◌, if◌then◌else◌, find, nat_lt, option_map, option_and_then, IfSome}
 use Rattle.std.specs.List.{slice_get}
 use Rattle.std.specs.Option.{option_map_or}
 use Rattle.std.proofs.lemmas.Bool.Decides.{nat_tests}
@@ -34,7 +34,7 @@ use Rattle.ccr_model.proofs.PostNames.{refused_not}
 use Rattle.ccr_model.proofs.PlacementDomains.{placement-within}
 use Rattle.ccr_base.proofs.Options.{some_of, some_then, some_map, none_or, none_map, no_head}
 use Rattle.ccr_model.proofs.Members.{Among, Among-left, Among-right}
-use Rattle.ccr_model.proofs.SameNames.{same_task-is}
+use Rattle.ccr_base.proofs.SameNames.{same_task-is}
 use Rattle.ccr_base.proofs.Booleans.{both}
 
 -- Post of a script
@@ -266,3 +266,8 @@ quiet_parts w c h queues none (End t how) allowed =
 
 pub IsQuiet-first : (w : Parts) (c : ℕ) (h : List Event) → HasQueues w → first w c h ≡ None → IsQuiet w h
 IsQuiet-first w c h queues is = quiet_parts w c h queues (NoneFirst-first w c h is)
+
+-- and where none is allowed, none comes that would have to be
+pub none_if_quiet : (w : Parts) (h : List Event) → IsQuiet w h → (o : Option Event) → IfSome o (IsAllowed w h) → o ≡ None
+none_if_quiet w h quiet None allowed = refl
+none_if_quiet w h quiet (Some e) allowed = absurd (quiet e allowed)

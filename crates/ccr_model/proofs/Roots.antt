@@ -22,7 +22,7 @@ use Rattle.ccr_model.proofs.Stable.{firing_named-append, root_at-append}
 use Rattle.ccr_model.proofs.OneMoreEvent.{ever_admitted-push}
 use Rattle.ccr_model.proofs.LegalParts.{along_legal}
 use Rattle.ccr_base.proofs.Options.{some_of}
-use Rattle.ccr_model.proofs.SameNames.{same_task-is, same_task-self}
+use Rattle.ccr_base.proofs.SameNames.{same_task-is, same_task-self}
 use Rattle.ccr_model.proofs.TasksLeft.{of_filter}
 use Rattle.ccr_base.proofs.Booleans.{not_true, both, and_not, and_false, refuted, no_both}
 use Rattle.ccr_model.proofs.FiredTasks.{IsFired, root_stays}

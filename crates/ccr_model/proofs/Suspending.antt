@@ -24,7 +24,7 @@ use Rattle.ccr_model.proofs.Stable.{firing_named-append}
 use Rattle.ccr_model.proofs.OneMoreEvent.{yielded-push}
 use Rattle.ccr_model.proofs.LegalParts.{along_legal}
 use Rattle.ccr_base.proofs.Options.{some_of, some_map}
-use Rattle.ccr_model.proofs.SameNames.{same_task-self}
+use Rattle.ccr_base.proofs.SameNames.{same_task-self}
 use Rattle.ccr_model.proofs.TasksLeft.{has_task-append, of_filter, filter_on, distinct-filter}
 use Rattle.ccr_base.proofs.Booleans.{not_true, both, or_left, or_right, and_not, same_number}
 use Rattle.ccr_model.proofs.FiredTasks.{IsFired, none_fired}

@@ -25,7 +25,7 @@ use Rattle.ccr_model.specs.Rules.{is_new}
 use Rattle.ccr_model.specs.Legal.{IsAllowed, IsLegal}
 use Rattle.ccr_wiring.specs.Valid.{slot_ports, names_ports_once, HasPortsApart}
 use Rattle.ccr_model.proofs.PostNames.{times, along, refused_not, AreNamed, named_kept}
-use Rattle.ccr_model.proofs.SameNames.{same_message-is}
+use Rattle.ccr_base.proofs.SameNames.{same_message-is}
 use Rattle.ccr_base.proofs.Booleans.{both}
 use Rattle.ccr_base.specs.Lists.{has_number, are_apart}
 

@@ -8,7 +8,7 @@ use Rattle.ccr_model.specs.Consequences.{are_distinct_tasks}
 use Rattle.ccr_model.specs.Rules.{is_first}
 use Rattle.ccr_model.proofs.QuietAllowsNone.{first_is}
 use Rattle.ccr_base.proofs.Options.{head_rest}
-use Rattle.ccr_model.proofs.SameNames.{same_task-is, same_task-self}
+use Rattle.ccr_base.proofs.SameNames.{same_task-is, same_task-self}
 use Rattle.ccr_model.proofs.TasksLeft.{has_task-append, has_task-filter}
 use Rattle.ccr_base.proofs.Booleans.{not_true, not_false, both, neither, or_left, or_right, either, refuted, no_both}
 

@@ -1,5 +1,5 @@
 -- Nobody fires twice, so nobody waits twice, in one domain or in two.
-use Rattle.std.proofs.Common.{◌≡◌, ℕ, Bool, true, false, not, ◌||◌, List, [], ◌∷◌, ◌++◌, map, filter, Some, refl, sym, ap, ◌∙◌, append-nil, subst}
+use Rattle.std.proofs.Common.{◌≡◌, ℕ, Bool, true, false, not, ◌||◌, List, [], ◌∷◌, ◌++◌, map, filter, Some, refl, sym, ap, ◌∙◌, append-nil, subst, Option, None}
 use Rattle.std.specs.Prelude.{◌==◌, if◌then◌else◌}
 use Rattle.std.specs.Option.{option_map_or}
 use Rattle.ccr_base.specs.declared.names.TaskId.{TaskId}
@@ -7,13 +7,13 @@ use Rattle.ccr_base.specs.declared.names.Spot.{Spot}
 use Rattle.ccr_base.specs.declared.names.Spot.TheVariants.{Branch, Site}
 use Rattle.ccr_base.specs.Names.{same_task, has_task}
 use Rattle.ccr_wiring.specs.declared.parts.Parts.{Parts}
-use Rattle.ccr_wiring.specs.Wirings.{placement}
+use Rattle.ccr_wiring.specs.Wirings.{placement, Placement}
 use Rattle.ccr_model.specs.declared.history.Event.{Event}
 use Rattle.ccr_model.specs.declared.history.Event.TheVariants.{Post, Fire, Admit, Put, Start, End}
 use Rattle.ccr_model.specs.Consequences.{are_distinct_tasks}
 use Rattle.ccr_model.specs.Firings.{Firing, firings, fired, cut, ever_admitted}
 use Rattle.ccr_model.specs.Interleaves.{is_placement_in}
-use Rattle.ccr_model.specs.Tasks.{is_interleave, is_branch_where, fired_by, waiting}
+use Rattle.ccr_model.specs.Tasks.{is_interleave, is_branch_where, fired_by, waiting, is_teardown}
 use Rattle.ccr_model.specs.Legal.{IsAllowed, IsLegal}
 use Rattle.ccr_model.proofs.Allowing.{OneName-legal}
 use Rattle.ccr_base.proofs.Booleans.{both, not_true, same_number}
@@ -23,6 +23,7 @@ use Rattle.ccr_model.proofs.PostNames.{along}
 use Rattle.ccr_model.proofs.OneMoreEvent.{fired-fire, firings-push}
 use Rattle.ccr_model.proofs.TaskLists.{not_within}
 use Rattle.ccr_model.proofs.TasksLeft.{distinct-push, distinct-filter}
+use Rattle.ccr_model.specs.Rules.{cuts_at}
 
 once_kept : (w : Parts) (h : List Event) (e : Event) → are_distinct_tasks (fired h) ≡ true → IsAllowed w h e → are_distinct_tasks (fired (h ++ e ∷ [])) ≡ true
 once_kept w h (Fire t s ms cs) once allowed = rw fired-fire (distinct-push (fired h) t once (FiresSo-allowed w h t s ms cs allowed).new_name)
@@ -75,3 +76,16 @@ waits_in_one w h i j t legal here there =
     let found : Some a.firing ≡ Some b.firing = sym a.is_firing ∙ b.is_firing in
     let same : b.firing ≡ a.firing = cc in
     branch_in_one w i j a.firing.spot a.is_branch (subst (λ (f : Firing). is_branch_where w (is_placement_in j) f.spot ≡ true) same b.is_branch)
+
+-- whom a firing cuts are different
+pub cuts_distinct : (w : Parts) (h : List Event) (s : Spot) → IsLegal w h → are_distinct_tasks (cuts_at w h s) ≡ true
+cuts_distinct w h (Site b k) legal = refl
+cuts_distinct w h (Branch b) legal = of_option (placement w b)
+  where
+    of_option : (o : Option Placement) → are_distinct_tasks (option_map_or (λ (z : Placement). if is_teardown z.branch.group then waiting w h z.domain else []) o []) ≡ true
+    of_option None = refl
+    of_option (Some z) = of_test (is_teardown z.branch.group)
+      where
+        of_test : (c : Bool) → are_distinct_tasks (if c then waiting w h z.domain else []) ≡ true
+        of_test true = waiting_once w h z.domain legal
+        of_test false = refl

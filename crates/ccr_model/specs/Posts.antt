@@ -49,6 +49,14 @@ abbrev pub is_message_of : TaskId → MsgId → Bool
 is_message_of task (Script actor index) = false
 is_message_of task (Task other index) = same_task task other
 
+-- how many of the messages the script of the poster made
+abbrev pub made_by_poster : List Msg → ℕ → ℕ
+made_by_poster messages poster = length (filter (λ (message : Msg). is_script_of poster message.id) messages)
+
+-- how many of the messages tasks made
+abbrev pub task_messages : List Msg → ℕ
+task_messages messages = length (filter (λ (message : Msg). is_task_message message.id) messages)
+
 -- how many posts of its script the poster has made
 abbrev pub posts_of_poster : List Event → ℕ → ℕ
 posts_of_poster history poster = length (filter (λ (message : Msg). is_script_of poster message.id) (posts history))

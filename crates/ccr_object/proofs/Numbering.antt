@@ -3,8 +3,7 @@ use Rattle.std.proofs.Common.{Bool, true, false, ◌≡◌, ◌⊎◌, ℕ, zero
 use Rattle.std.specs.Prelude.{nat_lt, slice_get, All, flat_map, Option, ◌↔◌}
 use Rattle.std.specs.List.{list_all}
 use Rattle.std.specs.Option.{is_some, option_map_or}
-use Rattle.std.proofs.lemmas.Bool.{cases_lt, eqb-true, lt-ltb, le-ltb, ltb-true, ltb-false, and_parts, and_from}
-use Rattle.std.proofs.lemmas.Bool.Decides.{nat_tests}
+use Rattle.std.proofs.lemmas.Bool.{cases_lt, eqb-true, lt-ltb, ltb-true, and_parts, and_from}
 use Rattle.std.proofs.lemmas.List.{length-append, length-map}
 use Rattle.std.proofs.lemmas.List.Concat.{flat_map-cons}
 use Rattle.std.proofs.lemmas.List.Elements.{All-nil, All-cons, All-head, All-tail}
@@ -14,6 +13,7 @@ use Rattle.ccr_base.specs.declared.names.Spot.TheVariants.{Branch, Site}
 use Rattle.ccr_base.specs.declared.tasks.Cut.{Cut}
 use Rattle.ccr_base.specs.declared.tasks.Task.{Task}
 use Rattle.ccr_base.specs.Lists.{are_apart}
+use Rattle.ccr_base.proofs.Options.{get-before, is_some-get}
 use Rattle.ccr_wiring.specs.declared.parts.ArbiterPart.{ArbiterPart}
 use Rattle.ccr_wiring.specs.declared.parts.BranchPart.{BranchPart}
 use Rattle.ccr_wiring.specs.declared.parts.Kind.{Kind}
@@ -50,26 +50,11 @@ module _ (wiring : Parts) where
   many : length (site_counts wiring) ≡ length (placements wiring)
   many = ap length counts_are ∙ length-map (placements wiring) (λ (s : Placement). site_count wiring s.branch)
 
-  none_below : (n : ℕ) → nat_lt n 0 ≡ false
-  none_below n = grind (arith, nat_tests)
-
-  next_below : (i n : ℕ) → nat_lt (suc i) (suc n) ≡ nat_lt i n
-  next_below i n = by_test (nat_lt i n) refl
-    where
-      by_test : (b : Bool) → nat_lt i n ≡ b → nat_lt (suc i) (suc n) ≡ b
-      by_test true e = let l = ltb-true i n e in lt-ltb (suc i) (suc n) (omega arith)
-      by_test false e = let l = ltb-false i n e in le-ltb (suc i) (suc n) (omega arith)
-
-  in_list : {X : Type 0} (xs : List X) (i : ℕ) → nat_lt i (length xs) ≡ is_some (slice_get xs i)
-  in_list [] i = none_below i
-  in_list (x ∷ xs) zero = lt-ltb 0 (length (x ∷ xs)) (omega arith)
-  in_list (x ∷ xs) (suc i) = next_below i (length xs) ∙ in_list xs i
-
   -- a site is counted where it awaits a port
   site_in : (ss : List Placement) (branch site : ℕ) → option_map_or (λ count. nat_lt site count) (slice_get (map (λ (s : Placement). site_count wiring s.branch) ss) branch) false
       ≡ is_some (option_map_or (λ (s : Placement). slice_get (awaited (actions_of wiring s.branch.handler)) site) (slice_get ss branch) None)
   site_in [] branch site = refl
-  site_in (s ∷ ss) zero site = in_list (awaited (actions_of wiring s.branch.handler)) site
+  site_in (s ∷ ss) zero site = sym (is_some-get (awaited (actions_of wiring s.branch.handler)) site)
   site_in (s ∷ ss) (suc branch) site = site_in ss branch site
 
   spot_to : (spot : Spot) → has_spot (numbers_of wiring) spot ≡ true → IsSpotOf wiring spot
@@ -90,11 +75,6 @@ module _ (wiring : Parts) where
   at_end (y ∷ ys) x zero is = absurd (omega arith)
   at_end (y ∷ ys) x (suc i) is = at_end ys x i (omega arith)
 
-  before_end : {X : Type 0} (xs : List X) (x : X) (i : ℕ) → i < length xs → slice_get (xs ++ x ∷ []) i ≡ slice_get xs i
-  before_end [] x i low = absurd (omega arith)
-  before_end (y ∷ ys) x zero low = refl
-  before_end (y ∷ ys) x (suc i) low = before_end ys x i (omega arith)
-
   past_end : {X : Type 0} (xs : List X) (i : ℕ) → length xs ≤ i → slice_get xs i ≡ None
   past_end [] i high = refl
   past_end (x ∷ xs) zero high = absurd (omega arith)
@@ -105,7 +85,7 @@ module _ (wiring : Parts) where
   test_at (suc n) i low = by (cases_lt i n) (test_at n i)
     where
       by : (i < n) ⊎ (n ≤ i) → (i < n → slice_get (domain_tests wiring.domains n) i ≡ Some (domain_of wiring.domains i == i)) → slice_get (domain_tests wiring.domains n ++ (domain_of wiring.domains n == n) ∷ []) i ≡ Some (domain_of wiring.domains i == i)
-      by (inl less) rest = before_end (domain_tests wiring.domains n) (domain_of wiring.domains n == n) i (rw (tests_long n) less) ∙ rest less
+      by (inl less) rest = get-before (domain_tests wiring.domains n) (domain_of wiring.domains n == n) i (rw (tests_long n) less) ∙ rest less
       by (inr more) rest =
           let last : i ≡ n = omega (arith, low, more) in
           at_end (domain_tests wiring.domains n) (domain_of wiring.domains n == n) i (last ∙ sym (tests_long n)) ∙ ap (λ k. Some (domain_of wiring.domains k == k)) (sym last)

@@ -26,6 +26,10 @@ pub record Waiting : Type 0 where
   pub task : TaskId
   pub spot : Spot
 
+-- the name of the waiting task
+abbrev pub waiting_task : Waiting → TaskId
+waiting_task waiting = waiting.task
+
 -- the branches, rising, and the group of each; the tasks that fired there; those that wait, oldest first; the admitted roots
 -- that aren't noted over, those of concurrent branches apart from the others; the teardown task that fired
 pub record InterleaveState : Type 0 where

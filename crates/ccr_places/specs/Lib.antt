@@ -7,3 +7,4 @@ pub mod Meters
 pub mod Ports
 pub mod Arbiters
 pub mod Sites
+pub mod NotedTasks

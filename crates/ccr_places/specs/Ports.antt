@@ -13,7 +13,7 @@ use Rattle.ccr_base.specs.declared.names.TaskId.{TaskId}
 use Rattle.ccr_base.specs.declared.messages.Msg.{Msg}
 use Rattle.ccr_base.specs.declared.patterns.Pred.{Pred}
 use Rattle.ccr_base.specs.declared.patterns.Slot.{Slot}
-use Rattle.ccr_base.specs.Names.{same_task}
+use Rattle.ccr_base.specs.Names.{same_task, has_task}
 use Rattle.ccr_base.specs.Selection.{holds, fitting, is_choosable}
 use Rattle.ccr_places.specs.declared.claims.StandingClaim.{StandingClaim}
 use Rattle.ccr_places.specs.declared.notes.ClaimNote.{ClaimNote}
@@ -47,6 +47,11 @@ first_fitting count pred messages = take count (fitting pred messages)
 abbrev pub without_first : ℕ → Pred → List Msg → List Msg
 without_first count pred [] = []
 without_first count pred (message ∷ messages) = if holds pred message.value && nat_lt 0 count then without_first (count - 1) pred messages else message ∷ without_first count pred messages
+
+-- the messages of the port that none of these tasks took: those that its claim marks are taken as soon as the task of the claim fires,
+-- though they stand at the port until the claim is consumed
+abbrev pub unmarked_by : List TaskId → PortState → List Msg
+unmarked_by fired port = option_map_or (λ (claim : StandingClaim). if has_task fired claim.task then without_first claim.count claim.pred port.items else port.items) port.claim port.items
 
 -- the messages that the claim marks
 abbrev pub marked : PortState → List Msg

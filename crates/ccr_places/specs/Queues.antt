@@ -21,6 +21,10 @@ pub record Queued : Type 0 where
   pub task : TaskId
   pub resumes : Bool
 
+-- the name of the queued task
+abbrev pub queued_task : Queued → TaskId
+queued_task queued = queued.task
+
 -- the number and the policy; the booked tasks, those that resume a suspended one apart; the queued tasks, oldest first
 pub record QueueState : Type 0 where
   pub number : ℕ

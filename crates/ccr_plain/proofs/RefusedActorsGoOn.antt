@@ -6,7 +6,7 @@ use Rattle.std.proofs.lemmas.Bool.Decides.{nat_tests}
 use Rattle.std.proofs.Math.ListN.{length-set}
 use Rattle.ccr_wiring.specs.declared.parts.Parts.{Parts}
 use Rattle.ccr_wiring.specs.Valid.{IsValid}
-use Rattle.ccr_base.proofs.Booleans.{eq-self, same_number}
+use Rattle.ccr_base.proofs.Booleans.{eq-self, same_number, differ}
 use Rattle.ccr_base.specs.Lists.{has_number}
 use Rattle.ccr_claim.specs.declared.asks.Ask.{Ask}
 use Rattle.ccr_claim.specs.declared.asks.Ask.TheVariants as asks
@@ -34,7 +34,6 @@ use Rattle.ccr_runs.specs.Played.{Heard, entries_of, heard, next_of, numbered, p
 use Rattle.ccr_runs.specs.EntryRuns.{Lacks, entry_for, made_by, never, replies_of, scheduled, scheduled_from, with_made, IsRun, IsRunAfter}
 use Rattle.ccr_net.specs.Schedules.{IsActing, IsPlayed, IsShortAfter, IsStep}
 use Rattle.ccr_plain.specs.Shortages.{SoFar, counted, lacking, make, refuse, shortened as run_shortened, turned, turned_by, turned_from, HasRun, IsTaken, IsTurn}
-use Rattle.ccr_net.proofs.Played.OneMoreAct.{differs}
 use Rattle.ccr_net.proofs.Played.EachPlaceAnswers.{step_facts}
 use Rattle.ccr_net.proofs.Played.PlayedRunsAreRuns.{Matches, Matches-begins, act_adds}
 use Rattle.ccr_net.proofs.Played.NextAsksAreAnswered.{StepFacts}
@@ -203,7 +202,7 @@ module _ (workers : ℕ) (lacks : Lacks) (state : PlainState) (team : List Actin
             let j_is : k ≡ j = same_number k j is in
             let x_is : x ≡ b = got_set team k b x low (subst (λ i. slice_get (slice_set team k b) i ≡ Some x) (sym j_is) at) in
             subst (λ i. IsActing w (lacking lacks k count) entries i x) j_is (subst (IsActing w (lacking lacks k count) entries k) (sym x_is) (acting_refused w lacks entries k a b one acting_so asks goes so))
-        by false is = acting_beside w lacks entries k count j x is (played.acting j x (sym (got_other team k b j (differs k j is)) ∙ at))
+        by false is = acting_beside w lacks entries k count j x is (played.acting j x (sym (got_other team k b j (λ same. differ k j is (sym same))) ∙ at))
 
     run_so : IsRunFrom (protocol w (lacking lacks k count)) (length w.posters + workers) (scene w) (cast (protocol w (lacking lacks k count))) state.acts
     run_so =

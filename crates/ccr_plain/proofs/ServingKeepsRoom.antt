@@ -18,7 +18,7 @@ use Rattle.ccr_claim.specs.Asks.{due_of, fits, is_settling}
 use Rattle.ccr_actor.specs.Actors.{next}
 use Rattle.ccr_actor.specs.Nets.{AreFitting, AreNext, IsProper, Step}
 use Rattle.ccr_actor.specs.Nets as nets
-use Rattle.ccr_actor.proofs.ActorsFollowTheirSteps.{next_more}
+use Rattle.ccr_actor.proofs.ActorsFollowTheirSteps.{next_more, replies-more}
 use Rattle.ccr_object.specs.declared.deed.PlaceAnswer.{PlaceAnswer}
 use Rattle.ccr_object.specs.declared.deed.PlaceAnswer.TheVariants.{Replied}
 use Rattle.ccr_object.specs.declared.deed.Deed.{Deed}
@@ -101,10 +101,6 @@ fitting-push (first ∷ steps) step all fit = (all.0, fitting-push steps step al
 
 owed-push : (steps : List Step) (step : Step) → owed_by (steps ++ step ∷ []) ≡ owed_after (owed_by steps) step
 owed-push steps step = fold-append owed_after 0 steps (step ∷ [])
-
-replies-push : (steps : List Step) (step : Step) → nets.replies_of (steps ++ step ∷ []) ≡ nets.replies_of steps ++ step.reply ∷ []
-replies-push [] step = refl
-replies-push (first ∷ steps) step = ap (λ rest. first.reply ∷ rest) (replies-push steps step)
 
 -- ---- the start
 
@@ -232,7 +228,7 @@ module _ (w : Parts) (acts : List (Act Deed)) (serving : IsServing w acts) (k : 
             (λ less. subst (AreNext w k (own_lacks k) []) (sym steps_own) (next_more w k (own_lacks k) [] (steps_in w acts k) step (next_so k less) (ap (λ lack. next w k lack (nets.replies_of (steps_in w acts k))) here ∙ proper.2)))
             (λ j other less. subst (AreNext w j (own_lacks j) []) (sym (steps_other j other)) (next_so j less));
         heard = each (λ j. nets.replies_of (steps_in w (acts ++ act ∷ []) j) ≡ replies_of w (entries_of w (acts ++ act ∷ [])) j)
-            (ap nets.replies_of steps_own ∙ replies-push (steps_in w acts k) step ∙ ap (λ given. given ++ reply ∷ []) (serving.heard k) ∙ sym replies_own ∙ ap (λ es. replies_of w es k) (sym entries_so))
+            (ap nets.replies_of steps_own ∙ replies-more (steps_in w acts k) step ∙ ap (λ given. given ++ reply ∷ []) (serving.heard k) ∙ sym replies_own ∙ ap (λ es. replies_of w es k) (sym entries_so))
             (λ j other. ap nets.replies_of (steps_other j other) ∙ serving.heard j ∙ sym (heard_other w 16 own_lacks serving.valid few_workers acts run_now k low one asks_now entry is_entry j other) ∙ ap (λ es. replies_of w es j) (sym entries_so));
         fitting = each (λ j. AreFitting (steps_in w (acts ++ act ∷ []) j))
             (subst AreFitting (sym steps_own) (fitting-push (steps_in w acts k) step (serving.fitting k) fit))

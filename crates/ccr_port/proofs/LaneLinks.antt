@@ -12,7 +12,7 @@ use Rattle.ccr_base.proofs.Booleans.{not_true}
 use Rattle.ccr_base.proofs.Lists.{all_more}
 use Rattle.ccr_port.specs.declared.links.Link.{Link}
 use Rattle.ccr_port.specs.Chains.{behind_of, before_of, has_key, without_key, IsChain, mended}
-use Rattle.ccr_port.specs.Lanes.{is_below, lane_keys, IsLinkedLane, LaneState, can_enter}
+use Rattle.ccr_port.specs.Lanes.{is_below, lane_keys, IsLinkedLane, KeyLaneState, can_enter}
 use Rattle.ccr_port.proofs.Chains.{both, keys-are, behind-index, all-without, end-holds, key-holds, behind_key-holds, before_key-holds, length-without_key, chain-same}
 use Rattle.ccr_port.proofs.Linking.{chain-appended, chain-unlinked}
 
@@ -127,12 +127,12 @@ before-pushed (l ∷ links) last (Some zero) = refl
 before-pushed (l ∷ links) last (Some (suc k)) = before-pushed links last (Some k)
 
 -- what is asked of a key that enters
-pub record MayEnter (key : ℕ) (lane : LaneState) : Type 0 where
+pub record MayEnter (key : ℕ) (lane : KeyLaneState) : Type 0 where
   pub room : key < lane.room
   pub absent : has_key key lane.keys ≡ false
   pub few : length lane.keys + 1 < 2 ^ 32
 
-pub may_enter : (key : ℕ) (lane : LaneState) → can_enter key lane ≡ true → MayEnter key lane
+pub may_enter : (key : ℕ) (lane : KeyLaneState) → can_enter key lane ≡ true → MayEnter key lane
 may_enter key lane can =
     let parts = both _ _ can in
     let rest = both _ _ parts.1 in

@@ -13,6 +13,7 @@ use Rattle.ccr_base.specs.Selection.{holds, fitting}
 use Rattle.ccr_base.proofs.Booleans.{eq_turned, not_true, eq-self, same_number}
 use Rattle.ccr_base.specs.Lists.{are_apart}
 use Rattle.ccr_places.specs.Ports.{without_first}
+use Rattle.ccr_places.proofs.FirstFitting.{without_first-none}
 use Rattle.ccr_port.specs.Chains.{has_key}
 use Rattle.ccr_port.specs.Entries.{keys_of, messages_of, message_under, messages_under, are_under, without_entry, without_entries, can_take}
 use Rattle.ccr_port.specs.Lanes.{fitting_keys}
@@ -121,14 +122,6 @@ module _ (e : ℕ × Msg) where
 
 -- ---- the selection, by its keys
 
-without_none : (pred : Pred) (ms : List Msg) → without_first 0 pred ms ≡ ms
-without_none pred [] = refl
-without_none pred (m ∷ ms) = of_test (holds pred m.value) (without_none pred ms)
-  where
-    of_test : (b : Bool) → without_first 0 pred ms ≡ ms → (if b && nat_lt 0 0 then without_first (0 - 1) pred ms else m ∷ without_first 0 pred ms) ≡ m ∷ ms
-    of_test true rest = ap (λ l. m ∷ l) rest
-    of_test false rest = ap (λ l. m ∷ l) rest
-
 -- what the keys of the first messages that satisfy a predicate tell
 pub record IsSelection (pred : Pred) (n : ℕ) (es : List (ℕ × Msg)) : Type 0 where
   pub there : are_under (take n (fitting_keys pred es)) es ≡ true
@@ -147,7 +140,7 @@ none_chosen pred es =
       there = ap (λ ks. are_under ks es) none;
       messages = ap (λ ks. messages_under ks es) none ∙ sym (take_none (fitting pred (messages_of es)));
       can_go = ap (λ ks. can_take ks es) none;
-      rest = ap (λ ks. messages_of (without_entries ks es)) none ∙ sym (without_none pred (messages_of es));
+      rest = ap (λ ks. messages_of (without_entries ks es)) none ∙ sym (without_first-none pred (messages_of es));
     }
 
 pub is_selection : (pred : Pred) (n : ℕ) (es : List (ℕ × Msg)) → are_apart (keys_of es) ≡ true → IsSelection pred n es

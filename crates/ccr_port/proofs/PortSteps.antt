@@ -21,7 +21,7 @@ use Rattle.ccr_port.specs.declared.claims.Claimed.TheVariants.{Got, Short}
 use Rattle.ccr_port.specs.declared.claims.MarkedClaim.{MarkedClaim}
 use Rattle.ccr_port.specs.Chains.{has_key, without_key}
 use Rattle.ccr_port.specs.Entries.{keys_of, messages_of, messages_under, are_under, can_take, without_entry, without_entries}
-use Rattle.ccr_port.specs.Lanes.{LaneState, fitting_keys, AreLanes, AreSame, HasLane, can_enter, entered, have_room}
+use Rattle.ccr_port.specs.Lanes.{KeyLaneState, fitting_keys, AreLanes, AreSame, HasLane, can_enter, entered, have_room}
 use Rattle.ccr_port.specs.Marks.{IsMarked, IsPort}
 use Rattle.ccr_port.specs.Replies.{are_at, claim_reply}
 use Rattle.ccr_port.proofs.Chains.{both, apart-more, apart-without}
@@ -69,7 +69,7 @@ keys_of-more : (es : List (ℕ × Msg)) (key : ℕ) (message : Msg) → keys_of 
 keys_of-more [] key message = refl
 keys_of-more (e ∷ es) key message = ap (λ l. e.0 ∷ l) (keys_of-more es key message)
 
-module _ (number : ℕ) (es now : List (ℕ × Msg)) (lanes lanes2 : List LaneState) (claim : Option MarkedClaim) (key : ℕ) (message : Msg)
+module _ (number : ℕ) (es now : List (ℕ × Msg)) (lanes lanes2 : List KeyLaneState) (claim : Option MarkedClaim) (key : ℕ) (message : Msg)
     (is : IsPort number es lanes claim) (same : AreSame lanes lanes2) (out : has_key key (keys_of es) ≡ false) where
   pub posted : length es + 1 < 2 ^ 32 → (message.port == number) ≡ true → now ≡ es ++ (key, message) ∷ [] → IsPort number now (map (entered key message.value) lanes2) claim
   posted few here come = rw come (record {
@@ -88,10 +88,10 @@ module _ (number : ℕ) (es now : List (ℕ × Msg)) (lanes lanes2 : List LaneSt
 
 -- ---- a claim
 
-pub lane-keys : (es : List (ℕ × Msg)) (lanes : List LaneState) (number : ℕ) (pred : Pred) (lane : LaneState) → AreLanes es lanes → HasLane lanes number pred → lane ≡ get_or lanes number lane → lane.keys ≡ fitting_keys pred es
+pub lane-keys : (es : List (ℕ × Msg)) (lanes : List KeyLaneState) (number : ℕ) (pred : Pred) (lane : KeyLaneState) → AreLanes es lanes → HasLane lanes number pred → lane ≡ get_or lanes number lane → lane.keys ≡ fitting_keys pred es
 lane-keys es lanes number pred lane are found at =
     let same : lane ≡ found.0 = at ∙ get_or_from_slice_get lanes number found.0 lane found.1 in
-    ap (λ (l : LaneState). l.keys) same ∙ is-at es lanes number found.0 are found.1 ∙ ap (λ p. fitting_keys p es) found.2
+    ap (λ (l : KeyLaneState). l.keys) same ∙ is-at es lanes number found.0 are found.1 ∙ ap (λ p. fitting_keys p es) found.2
 
 -- what the port keeps
 abbrev pub state_of : ℕ → List (ℕ × Msg) → Option StandingClaim → PortState
@@ -154,7 +154,7 @@ module _ (number : ℕ) (es : List (ℕ × Msg)) (task : TaskId) (slot : Slot) (
       pub got-after : state_of number es (Some (record { task = task; pred = slot.pred; count = count })) ≡ after_claim (state_of number es None) task slot (GotNote (length copies))
       got-after = ap (λ k. state_of number es (Some (record { task = task; pred = slot.pred; count = k }))) (sym (ap length copies-are ∙ long))
 
-    pub claimed : (lanes : List LaneState) (mark : MarkedClaim) → IsPort number es lanes None → mark.standing.pred ≡ slot.pred → mark.standing.count ≡ count → mark.keys.items ≡ take count (fitting_keys slot.pred es) → IsPort number es lanes (Some mark)
+    pub claimed : (lanes : List KeyLaneState) (mark : MarkedClaim) → IsPort number es lanes None → mark.standing.pred ≡ slot.pred → mark.standing.count ≡ count → mark.keys.items ≡ take count (fitting_keys slot.pred es) → IsPort number es lanes (Some mark)
     claimed lanes mark is pred_is count_is keys_are =
         record { few = is.few; own = is.own; apart = is.apart; lanes = is.lanes; marked = rw (pred_is, count_is) (keys_are, bound) }
       where
@@ -187,14 +187,14 @@ fewer-rest : (ks : List ℕ) (es : List (ℕ × Msg)) → length (without_entrie
 fewer-rest [] es = omega arith
 fewer-rest (k ∷ ks) es = omega (arith, fewer-rest ks (without_entry k es), fewer-without k es)
 
-module _ (number : ℕ) (es : List (ℕ × Msg)) (lanes : List LaneState) (mark : MarkedClaim) (is : IsPort number es lanes (Some mark)) where
+module _ (number : ℕ) (es : List (ℕ × Msg)) (lanes : List KeyLaneState) (mark : MarkedClaim) (is : IsPort number es lanes (Some mark)) where
   pub marks-can_go : can_take mark.keys.items es ≡ true
   marks-can_go = ap (λ ks. can_take ks es) is.marked.0 ∙ (is_selection mark.standing.pred mark.standing.count es is.apart).can_go
 
   pub marks-gone : messages_of (without_entries mark.keys.items es) ≡ without_first mark.standing.count mark.standing.pred (messages_of es)
   marks-gone = ap (λ ks. messages_of (without_entries ks es)) is.marked.0 ∙ (is_selection mark.standing.pred mark.standing.count es is.apart).rest
 
-  pub consumed : (now : List (ℕ × Msg)) (lanes2 : List LaneState) → AreLanes now lanes2 → now ≡ without_entries mark.keys.items es → IsPort number now lanes2 None
+  pub consumed : (now : List (ℕ × Msg)) (lanes2 : List KeyLaneState) → AreLanes now lanes2 → now ≡ without_entries mark.keys.items es → IsPort number now lanes2 None
   consumed now lanes2 are gone = record {
     few = omega (arith, ap length gone, fewer-rest mark.keys.items es, is.few);
     own = ap (λ l. are_at number (messages_of l)) gone ∙ own-rest number mark.keys.items es is.own;

@@ -5,7 +5,7 @@ use Rattle.ccr_base.specs.Lists.{are_apart}
 use Rattle.ccr_places.specs.declared.claims.StandingClaim.{StandingClaim}
 use Rattle.ccr_port.specs.declared.claims.MarkedClaim.{MarkedClaim}
 use Rattle.ccr_port.specs.Entries.{keys_of, messages_of}
-use Rattle.ccr_port.specs.Lanes.{LaneState, fitting_keys, AreLanes}
+use Rattle.ccr_port.specs.Lanes.{KeyLaneState, fitting_keys, AreLanes}
 use Rattle.ccr_port.specs.Replies.{are_at}
 
 -- the claim that stands
@@ -19,7 +19,7 @@ IsMarked entries (Some mark) = (mark.keys.items ≡ take mark.standing.count (fi
 
 -- a port has fewer than 2^32 messages, all of its own number and under different keys; each of its lanes has the keys that
 -- it should, and its claim its marks
-pub record IsPort (number : ℕ) (entries : List (ℕ × Msg)) (kept : List LaneState) (claim : Option MarkedClaim) : Type 0 where
+pub record IsPort (number : ℕ) (entries : List (ℕ × Msg)) (kept : List KeyLaneState) (claim : Option MarkedClaim) : Type 0 where
   pub few : length entries < 2 ^ 32
   pub own : are_at number (messages_of entries) ≡ true
   pub apart : are_apart (keys_of entries) ≡ true

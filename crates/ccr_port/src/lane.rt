@@ -23,9 +23,9 @@ pub(crate) struct KeyLane {
 
 impl Model for KeyLane {
     ghost use Rattle.std.specs.Prelude.{length};
-    ghost use Rattle.ccr_port.specs.Lanes.{LaneState, lane_keys, IsLinkedLane};
+    ghost use Rattle.ccr_port.specs.Lanes.{KeyLaneState, lane_keys, IsLinkedLane};
 
-    ghost Value = { LaneState };
+    ghost Value = { KeyLaneState };
 
     ghost view = { λ lane. record {
       pred = lane.pred;

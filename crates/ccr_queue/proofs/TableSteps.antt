@@ -4,15 +4,17 @@ use Rattle.std.proofs.lemmas.List.{map-append}
 use Rattle.std.proofs.lemmas.List.Folds.{list_any-append}
 use Rattle.std.proofs.lemmas.List.Sums.{sum_by-append, sum_by-cons}
 use Rattle.std.proofs.lemmas.Map.Keys.{IsDistinct-push}
-use Rattle.std.specs.List.{list_any, AllByRecursion, IsDistinct}
+use Rattle.std.specs.List.{list_any, IsDistinct}
 use Rattle.std.specs.Map.{keys_of}
 use Rattle.std.specs.Option.{option_map_or}
 use Rattle.std.specs.FinSet as set
 use Rattle.ccr_base.specs.declared.names.TaskId.{TaskId}
 use Rattle.ccr_base.specs.Names.{same_task}
 use Rattle.ccr_base.proofs.Options.{none_is}
+use Rattle.ccr_base.proofs.SameNames.{same_task-is}
+use Rattle.ccr_base.proofs.Lists.{none_mapped}
 use Rattle.ccr_places.specs.Queues.{Queued}
-use Rattle.ccr_places.specs.TaskSets.{task_cmp, len-there, same_task-true, same_task_equiv}
+use Rattle.ccr_places.specs.TaskSets.{task_cmp, len-there, same_task_equiv}
 use Rattle.ccr_places.specs.TaskTables.{tasks_where, kept_of, contains-tasks_where, tasks_where-put, tasks_where-gone, tasks_where-same, len-tasks_where}
 use Rattle.ccr_queue.specs.declared.stage.QueueStage.{QueueStage}
 use Rattle.ccr_queue.specs.declared.stage.QueueStage.TheVariants.{Fresh, Resuming, Queued as StandsQueued}
@@ -60,7 +62,7 @@ module _ (old new : List (TaskId × QueueStage)) (task : TaskId) (kept : Option 
     where
       by : (here : Bool) → same_task task other ≡ here
           → option_map_or is_queued (cond here kept (kept_of old other)) false ≡ option_map_or is_queued (kept_of old other) false
-      by true e = same ∙ ap (λ t. option_map_or is_queued (kept_of old t) false) (same_task-true task other e)
+      by true e = same ∙ ap (λ t. option_map_or is_queued (kept_of old t) false) (same_task-is task other e)
       by false e = refl
 
   module _ (queued later : List Queued) (fresh count room space : ℕ) (tied : Tied old queued fresh room)
@@ -237,10 +239,6 @@ module _ (old new : List (TaskId × QueueStage)) (queued : List Queued) (fresh r
 
 -- ---- a take
 
-none_later : (task : TaskId) (later : List Queued) → AllByRecursion (λ y. same_task task y ≡ false) (map (λ (q : Queued). q.task) later) → list_any (λ (q : Queued). same_task task q.task) later ≡ false
-none_later task [] h = refl
-none_later task (q ∷ later) h = λ i. h.0 i || none_later task later h.1 i
-
 only_queued : (kept : Option QueueStage) → option_map_or is_queued kept false ≡ true → kept ≡ Some StandsQueued
 only_queued None e = absurd (true≢false (sym e))
 only_queued (Some Fresh) e = absurd (true≢false (sym e))
@@ -273,7 +271,7 @@ module _ (old new : List (TaskId × QueueStage)) (oldest : Queued) (later : List
         where
           by : (here : Bool) → same_task oldest.task other ≡ here
               → option_map_or is_queued (cond here None (kept_of old other)) false ≡ list_any (λ (q : Queued). same_task other q.task) later
-          by true e = sym (ap (λ t. list_any (λ (q : Queued). same_task t q.task) later) (sym (same_task-true oldest.task other e)) ∙ none_later oldest.task later (tied.queued_distinct).0)
+          by true e = sym (ap (λ t. list_any (λ (q : Queued). same_task t q.task) later) (sym (same_task-is oldest.task other e)) ∙ none_mapped (same_task oldest.task) (λ (q : Queued). q.task) later (tied.queued_distinct).0)
           by false e = tied.same_queued other ∙ ap (λ b. b || list_any (λ (q : Queued). same_task other q.task) later) (same_task_equiv.symm other oldest.task ∙ e)
 
   pub sets_taken : (tasks_where is_fresh new ≡ tasks_where is_fresh old) × (tasks_where is_resuming new ≡ tasks_where is_resuming old)

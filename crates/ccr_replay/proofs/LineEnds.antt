@@ -4,8 +4,7 @@ use Rattle.std.specs.Prelude.{◌==◌, ◌&&◌, not, if◌then◌else◌}
 use Rattle.std.specs.List.{list_all, onto_first}
 use Rattle.std.proofs.lemmas.Bool.Decides.{nat_tests}
 use Rattle.std.proofs.lemmas.Grind.{common_steps}
-use Rattle.ccr_text.specs.Lines.{begin_from, begins_with, split_text}
-use Rattle.ccr_replay.specs.Reading.{after_feed}
+use Rattle.ccr_text.specs.Lines.{begin_from, begins_with, split_text, behind_line}
 use Rattle.ccr_replay.proofs.Splits.{split_one, spans}
 
 none_split : (text : List ℕ) → split_text text ≡ [] → text ≡ []
@@ -21,23 +20,23 @@ none_split (b ∷ text) is = go (b == 10) is
     go false is = onto (split_text text) is
 
 -- the lines behind the first
-pub split_after : (text first : List ℕ) (lines : List (List ℕ)) → split_text text ≡ first ∷ lines → split_text (after_feed text) ≡ lines
+pub split_after : (text first : List ℕ) (lines : List (List ℕ)) → split_text text ≡ first ∷ lines → split_text (behind_line text) ≡ lines
 split_after [] first lines is = absurd (cc)
 split_after (b ∷ text) first lines is = go (b == 10) is (split_after text)
   where
     More : Type 0
-    More = (f : List ℕ) (ls : List (List ℕ)) → split_text text ≡ f ∷ ls → split_text (after_feed text) ≡ ls
+    More = (f : List ℕ) (ls : List (List ℕ)) → split_text text ≡ f ∷ ls → split_text (behind_line text) ≡ ls
 
-    onto : (ls : List (List ℕ)) → split_text text ≡ ls → onto_first b ls ≡ first ∷ lines → More → split_text (after_feed text) ≡ lines
+    onto : (ls : List (List ℕ)) → split_text text ≡ ls → onto_first b ls ≡ first ∷ lines → More → split_text (behind_line text) ≡ lines
     onto [] splits is more =
         let none : text ≡ [] = none_split text splits in
         let same : [] ≡ lines = cc in
-        ap (λ (t : List ℕ). split_text (after_feed t)) none ∙ same
+        ap (λ (t : List ℕ). split_text (behind_line t)) none ∙ same
     onto (l ∷ ls) splits is more =
         let same : ls ≡ lines = cc in
         more l ls splits ∙ same
 
-    go : (t : Bool) → (if t then ([] ∷ split_text text) else onto_first b (split_text text)) ≡ first ∷ lines → More → split_text (if t then text else after_feed text) ≡ lines
+    go : (t : Bool) → (if t then ([] ∷ split_text text) else onto_first b (split_text text)) ≡ first ∷ lines → More → split_text (if t then text else behind_line text) ≡ lines
     go true is more = cc
     go false is more = onto (split_text text) refl is more
 
@@ -64,21 +63,21 @@ feedless (b ∷ text) first lines is = go (b == 10) refl is (feedless text)
     go false other is more = onto (split_text text) refl other is more
 
 -- a line that isn't the last ends with LF
-pub one_line : (text first next : List ℕ) (lines : List (List ℕ)) → split_text text ≡ first ∷ (next ∷ lines) → text ≡ first ++ 10 ∷ after_feed text
+pub one_line : (text first next : List ℕ) (lines : List (List ℕ)) → split_text text ≡ first ∷ (next ∷ lines) → text ≡ first ++ 10 ∷ behind_line text
 one_line [] first next lines is = absurd (cc)
 one_line (b ∷ text) first next lines is = go (b == 10) refl is (one_line text)
   where
     More : Type 0
-    More = (f n : List ℕ) (ls : List (List ℕ)) → split_text text ≡ f ∷ (n ∷ ls) → text ≡ f ++ 10 ∷ after_feed text
+    More = (f n : List ℕ) (ls : List (List ℕ)) → split_text text ≡ f ∷ (n ∷ ls) → text ≡ f ++ 10 ∷ behind_line text
 
-    onto : (ls : List (List ℕ)) → split_text text ≡ ls → onto_first b ls ≡ first ∷ (next ∷ lines) → More → b ∷ text ≡ first ++ 10 ∷ after_feed text
+    onto : (ls : List (List ℕ)) → split_text text ≡ ls → onto_first b ls ≡ first ∷ (next ∷ lines) → More → b ∷ text ≡ first ++ 10 ∷ behind_line text
     onto [] splits is more = absurd (cc)
     onto (l ∷ ls) splits is more =
         let same : b ∷ l ≡ first = cc in
         let rest : ls ≡ next ∷ lines = cc in
-        ap (λ (t : List ℕ). b ∷ t) (more l next lines (splits ∙ ap (λ (xs : List (List ℕ)). l ∷ xs) rest)) ∙ ap (λ (f : List ℕ). f ++ 10 ∷ after_feed text) same
+        ap (λ (t : List ℕ). b ∷ t) (more l next lines (splits ∙ ap (λ (xs : List (List ℕ)). l ∷ xs) rest)) ∙ ap (λ (f : List ℕ). f ++ 10 ∷ behind_line text) same
 
-    go : (t : Bool) → (b == 10) ≡ t → (if t then ([] ∷ split_text text) else onto_first b (split_text text)) ≡ first ∷ (next ∷ lines) → More → b ∷ text ≡ first ++ 10 ∷ (if t then text else after_feed text)
+    go : (t : Bool) → (b == 10) ≡ t → (if t then ([] ∷ split_text text) else onto_first b (split_text text)) ≡ first ∷ (next ∷ lines) → More → b ∷ text ≡ first ++ 10 ∷ (if t then text else behind_line text)
     go true feed is more =
         let same : [] ≡ first = cc in
         let ten : b ≡ 10 = grind (arith, nat_tests, feed) in
@@ -110,7 +109,7 @@ pub parted : (text : List ℕ) (front : List (List ℕ)) (line : List ℕ) (back
 parted text [] line back is = record { before = refl; behind = is }
 parted text (first ∷ front) line back is =
     let next = some_next front line back in
-    let rest = after_feed text in
+    let rest = behind_line text in
     let whole : text ≡ first ++ 10 ∷ rest = one_line text first next.0 next.1 (is ∙ ap (λ (ls : List (List ℕ)). first ∷ ls) next.2) in
     let more = parted rest front line back (split_after text first (front ++ line ∷ back) is) in
     let free = feedless text first (front ++ line ∷ back) is in
@@ -127,7 +126,7 @@ pub record Fronted (text : List ℕ) (bytes : ℕ) : Type 0 where
 
 pub fronted : (text first : List ℕ) (front : List (List ℕ)) (line : List ℕ) (back : List (List ℕ)) → split_text text ≡ first ∷ (front ++ line ∷ back) → Fronted text (spans (first ∷ front))
 fronted text first [] line back is =
-    let rest = after_feed text in
+    let rest = behind_line text in
     let whole : text ≡ first ++ 10 ∷ rest = one_line text first line back is in
     let left : drop ((length first + 1) + 0) text ≡ rest = ap (drop ((length first + 1) + 0)) whole ∙ left_line first rest 0 in
     record {
@@ -136,7 +135,7 @@ fronted text first [] line back is =
       long = omega arith;
     }
 fronted text first (second ∷ front) line back is =
-    let rest = after_feed text in
+    let rest = behind_line text in
     let whole : text ≡ first ++ 10 ∷ rest = one_line text first second (front ++ line ∷ back) is in
     let more = fronted rest second front line back (split_after text first (second ∷ (front ++ line ∷ back)) is) in
     let n = spans (second ∷ front) in

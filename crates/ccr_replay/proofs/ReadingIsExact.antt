@@ -5,7 +5,7 @@ use Rattle.std.specs.Str.{bytes_eq}
 use Rattle.std.proofs.lemmas.Bool.Decides.{nat_tests}
 use Rattle.std.proofs.lemmas.Slice.Eq.{bytes_eq-Decides}
 use Rattle.std.proofs.Math.Seq.{drop-length}
-use Rattle.ccr_text.specs.Lines.{begin_from, begins_with, split_text, is_first_word, numbered, numbered_line, index_or_end}
+use Rattle.ccr_text.specs.Lines.{begin_from, begins_with, split_text, is_first_word, numbered, numbered_line, index_or_end, behind_line}
 use Rattle.ccr_text.specs.Fields.{Words, ◌>>=◌, no_more, or_code, unless, word}
 use Rattle.ccr_text.specs.Words.{is_clean, number_of, words_of, IsSkipped}
 use Rattle.ccr_wiring.specs.declared.parts.Parts.{Parts}
@@ -17,7 +17,7 @@ use Rattle.ccr_replay.specs.Turns.{reading_turns, turns_on}
 use Rattle.ccr_replay.proofs.TurnsSaid as turns_lines
 use Rattle.ccr_replay.specs.declared.records.Record.{Record}
 use Rattle.ccr_replay.specs.Grammar.{AreRecord, AreSkipped, IsLastLine, IsRecordLine, Says}
-use Rattle.ccr_replay.specs.Reading.{after_feed, and_then, behind_first, done_in, done_index, done_on, ending, line_at, recorded_turns, part_before, reading_behind, reading_lines, reading_part, reading_record, record_behind, record_index, skipped_in, skipped_lines, skipped_on, turns_behind, recorded_wiring, workers_in, workers_of, workers_on}
+use Rattle.ccr_replay.specs.Reading.{and_then, behind_first, done_in, done_index, done_on, ending, line_at, recorded_turns, part_before, reading_behind, reading_lines, reading_part, reading_record, record_behind, record_index, skipped_in, skipped_lines, skipped_on, turns_behind, recorded_wiring, workers_in, workers_of, workers_on}
 use Rattle.ccr_replay.proofs.LineEnds.{split_after, found_at, fronted, parted}
 use Rattle.ccr_replay.proofs.NoRecord.{no_record}
 use Rattle.ccr_replay.proofs.Splits.{split_behind, ended_free, found, none_begins, out_is, part_is, passed, spans, spans_ended}
@@ -94,7 +94,7 @@ turns_read actors number turns text middle last others is are ends skipped =
 
 lines_read : (wiring : Parts) (before workers : ℕ) (turns text : List ℕ) → AreRecord (length wiring.posters) workers turns (split_text text) → reading_behind wiring before text ≡ Ok (record { wiring = wiring; workers = workers; turns = turns })
 lines_read wiring before workers turns text are =
-    let rest = after_feed text in
+    let rest = behind_line text in
     let behind : split_text rest ≡ are.middle ++ are.last ∷ are.others = split_after text are.first (are.middle ++ are.last ∷ are.others) are.all in
     ap (reading_lines wiring before text) are.all
     ∙ ap (λ (r : Result ℕ ℕ). and_then (on_line (before + 1) r) (λ n. record_behind wiring (before + 1) n rest)) (record_read (before + 1) workers are.first are.first_line)
@@ -297,7 +297,7 @@ record Behind (wiring : Parts) (r : Record) (lines : List (List ℕ)) : Type 0 w
 
 lines_said : (wiring : Parts) (before : ℕ) (r : Record) (text first : List ℕ) (more : List (List ℕ)) → split_text text ≡ first ∷ more → begins_with (codes "record") first ≡ true → reading_behind wiring before text ≡ Ok r → Behind wiring r (split_text text)
 lines_said wiring before r text first more splits begins is =
-    let rest = after_feed text in
+    let rest = behind_line text in
     let read : reading_lines wiring before text (first ∷ more) ≡ Ok r = ap (reading_lines wiring before text) (sym splits) ∙ is in
     let one = and_ok (on_line (before + 1) (workers_on (numbered_line (before + 1) first))) (λ n. record_behind wiring (before + 1) n rest) r read in
     let line = record_said (before + 1) one.0 first begins (line_ok (before + 1) (workers_on (numbered_line (before + 1) first)) one.0 one.1) in

@@ -3,7 +3,7 @@ use Rattle.std.specs.Prelude.{ℕ, ◌+◌, ◌-◌, ◌==◌, max, nat_le, nat_
 use Rattle.std.specs.Str.{bytes_eq}
 use Rattle.ccr_base.specs.Bounds.{most_wiring_bytes, most_workers}
 use Rattle.ccr_text.specs.declared.lines.Line.{Line}
-use Rattle.ccr_text.specs.Lines.{split_text, find_line, numbered, numbered_line}
+use Rattle.ccr_text.specs.Lines.{split_text, find_line, numbered, numbered_line, behind_line}
 use Rattle.ccr_text.specs.Fields.{Words, ◌>>=◌, word, no_more, unless, or_code}
 use Rattle.ccr_text.specs.Words.{is_comment, number_of}
 use Rattle.ccr_wiring.specs.Actors.{actor_count}
@@ -29,11 +29,6 @@ recorded_wiring bytes = part_before (record_index bytes).0 bytes
 -- the line of the record and all behind it
 abbrev pub recorded_turns : List ℕ → List ℕ
 recorded_turns bytes = drop (record_index bytes).0 bytes
-
--- what stands behind the first LF
-abbrev pub after_feed : List ℕ → List ℕ
-after_feed [] = []
-after_feed (b ∷ bytes) = if b == 10 then bytes else after_feed bytes
 
 -- where the first line begins whose first word is `done`, and how many lines stand before it
 abbrev pub done_index : List ℕ → ℕ × ℕ
@@ -127,7 +122,7 @@ record_behind wiring number workers bytes =
 abbrev pub reading_lines : Parts → ℕ → List ℕ → List (List ℕ) → Result Record (ℕ × ℕ)
 reading_lines wiring before bytes [] = Err (max before 1, 16)
 reading_lines wiring before bytes (line ∷ lines) =
-    and_then (on_line (before + 1) (workers_on (numbered_line (before + 1) line))) (λ workers. record_behind wiring (before + 1) workers (after_feed bytes))
+    and_then (on_line (before + 1) (workers_on (numbered_line (before + 1) line))) (λ workers. record_behind wiring (before + 1) workers (behind_line bytes))
 
 -- the record of this wiring that stands in these bytes, behind so many lines
 abbrev pub reading_behind : Parts → ℕ → List ℕ → Result Record (ℕ × ℕ)

@@ -2,12 +2,12 @@
 
 ghost use Rattle.std.specs.Prelude.{◌≡◌, ◌≢◌, ◌≤◌, ◌<◌, ◌+◌, [], ◌∷◌, All, length, IfErr, IfOk};
 ghost use Rattle.ccr_base.specs.Bounds.{most_bytes, most_wiring_bytes, most_workers};
-ghost use Rattle.ccr_text.specs.Lines.{split_text, numbered};
+ghost use Rattle.ccr_text.specs.Lines.{split_text, numbered, behind_line};
 ghost use Rattle.ccr_wiring.specs.Actors.{actor_count};
 ghost use Rattle.ccr_wiretext.specs.Answers.{IsReading};
 ghost use Rattle.ccr_replay.specs.Answers.{SaysNothing};
 ghost use Rattle.ccr_replay.specs.Grammar.{Says};
-ghost use Rattle.ccr_replay.specs.Reading.{after_feed, ending, line_at, part_before, reading_behind, reading_part, reading_record, record_behind, skipped_lines, turns_behind};
+ghost use Rattle.ccr_replay.specs.Reading.{ending, line_at, part_before, reading_behind, reading_part, reading_record, record_behind, skipped_lines, turns_behind};
 ghost use Rattle.ccr_replay.specs.Turns.{most_lines_before};
 
 use crate::lines::{done_on, skipped_on, workers_on};
@@ -168,7 +168,7 @@ fn read_behind(
 fn first_line(text: &[u8]) -> (&[u8], &[u8])
     requires { text.now ≢ [] }
     ensures first { split_text text.now ≡ result.0.now ∷ split_text result.1.now }
-    ensures after { result.1.now ≡ after_feed text.now }
+    ensures after { result.1.now ≡ behind_line text.now }
     ensures shorter { length result.1.now ≤ length text.now }
 {
     let (line, after) = split_line(text);

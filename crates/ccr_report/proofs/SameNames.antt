@@ -10,7 +10,7 @@ use Rattle.std.specs.Map.{lookup}
 use Rattle.ccr_base.specs.contracts.names.MsgIdPartialEq.TheImpl.{ghosts as names}
 use Rattle.ccr_base.specs.Names.{same_message, has_message}
 use Rattle.ccr_base.proofs.Lists.{any_same}
-use Rattle.ccr_model.proofs.SameNames.{same_message-sym}
+use Rattle.ccr_base.proofs.SameNames.{same_message-sym}
 
 -- whether a name stands among one name more
 pub has_message-more : (names : List MsgId) (i : ℕ) (d name : MsgId) → i < length names → has_message (take (i + 1) names) name ≡ cond (same_message (get_or names i d) name) true (has_message (take i names) name)

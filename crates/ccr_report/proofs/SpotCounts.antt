@@ -11,7 +11,7 @@ use Rattle.ccr_model.specs.declared.history.Event.{Event}
 use Rattle.ccr_model.specs.declared.history.Event.TheVariants.{Post, Fire, Admit, Put, Start, End}
 use Rattle.ccr_model.specs.Firings.{Firing, fired_at}
 use Rattle.ccr_base.specs.contracts.names.SpotPartialEq.TheImpl.{ghosts as spots}
-use Rattle.ccr_model.proofs.SameNames.{same_spot-is}
+use Rattle.ccr_base.proofs.SameNames.{same_spot-is}
 use Rattle.ccr_report.proofs.SameNames.{lookup_same}
 
 -- the derived comparison of spots is the test of them

@@ -23,9 +23,10 @@ use Rattle.ccr_claim.specs.Settling.{AttemptStep, Shot, step_of, AreAnswers}
 use Rattle.ccr_claim.proofs.HandsAreOwed.{stands, gave_up, fired}
 use Rattle.ccr_actor.specs.Plans.{plan_of}
 use Rattle.ccr_actor.specs.Actors.{State, settle, drive, turn, name_at, asked, ask_in, settled, after_attempt, fire, give_up, after_in, after}
+use Rattle.ccr_actor.proofs.AttemptsGoOn.{is_own, own}
 use Rattle.ccr_rests.specs.Trials.{Trial, state_of, steps_of, Stretch, attempt, steps_in, GaveUp, Fired, IsOwn, IsDone, AreDone}
 use Rattle.ccr_rests.proofs.Answering.{IsWithin, state_more, steps_more, may_more}
-use Rattle.ccr_rests.proofs.Hands.{IsOrdered, release_ordered, firing_ordered, IsBetween, done_alone, dropped_alone, is_heard, heard_alone}
+use Rattle.ccr_rests.proofs.Hands.{IsOrdered, release_ordered, firing_ordered, IsBetween, done_alone, dropped_alone}
 
 -- ---- stretches
 
@@ -197,7 +198,7 @@ module _ (w : Parts) (a : ℕ) (past : List AttemptStep) (st : State) (run : Run
   given-up : (reply : Reply) (why : Why) → fits (due_of (attempt_ask plan name st.phase).ask) reply ≡ true → answered_after (running w a st run.spot) (Ok reply) ≡ ending (later reply) (release plan name st.phase) (outcomes.GaveUp why) → Goes w a (past ++ step reply ∷ []) (give_up w a st run.spot run.more)
   given-up reply why fit is = ends w a (past ++ step reply ∷ []) (give_up w a st run.spot run.more) (later reply) (release plan name st.phase) (outcomes.GaveUp why) (tried reply fit) (state-at reply ∙ is) refl (release_ordered plan name st.phase) refl
 
-  driven : (reply : Reply) → fits (due_of (attempt_ask plan name st.phase).ask) reply ≡ true → is_heard reply ≡ true → Goes w a (past ++ step reply ∷ []) (after_attempt w a st run.spot run.more reply)
+  driven : (reply : Reply) → fits (due_of (attempt_ask plan name st.phase).ask) reply ≡ true → is_own reply ≡ true → Goes w a (past ++ step reply ∷ []) (after_attempt w a st run.spot run.more reply)
   driven replies.Booked fit own = runs-on replies.Booked (claiming (slots_in plan.pattern) []) fit refl
   driven (replies.Got ms) fit own = runs-on (replies.Got ms) (claimed plan ms st.phase) fit refl
   driven (replies.Fired task cuts) fit own =
@@ -222,7 +223,7 @@ module _ (w : Parts) (a : ℕ) (past : List AttemptStep) (st : State) (run : Run
   runs_go one reply asks fit =
       let is : attempt_ask plan name st.phase ≡ one = same_Some _ _ (sym (ap (ask_in w a st) turns) ∙ asks) in
       let may : fits (due_of (attempt_ask plan name st.phase).ask) reply ≡ true = subst (λ (x : Asked). fits (due_of x.ask) reply ≡ true) (sym is) fit in
-      let goes : Goes w a (past ++ step reply ∷ []) (after_attempt w a st run.spot run.more reply) = driven reply may (heard_alone plan name st.phase reply may) in
+      let goes : Goes w a (past ++ step reply ∷ []) (after_attempt w a st run.spot run.more reply) = driven reply may (own plan name st.phase reply may) in
       let same : after_attempt w a st run.spot run.more reply ≡ after w a st reply = sym (ap (λ t. after_in w a st t reply) turns) in
       subst (λ (x : Asked). Goes w a (past ++ (record { asked = x; answer = Ok reply }) ∷ []) (after w a st reply)) is (subst (Goes w a (past ++ step reply ∷ [])) same goes)
 

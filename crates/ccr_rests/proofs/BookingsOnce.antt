@@ -12,13 +12,14 @@ use Rattle.ccr_model.specs.Firings.{fired}
 use Rattle.ccr_base.proofs.Booleans.{both, eq-self, neither, no_both, not_true}
 use Rattle.ccr_model.proofs.FiredTasks.{fired_has}
 use Rattle.ccr_model.proofs.Members.{Among}
-use Rattle.ccr_model.proofs.SameNames.{same_task-is}
+use Rattle.ccr_base.proofs.SameNames.{same_task-is}
 use Rattle.ccr_model.proofs.TaskLists.{of_one}
 use Rattle.ccr_places.specs.declared.notes.Note.{Note}
 use Rattle.ccr_places.specs.declared.notes.Note.TheVariants as notes
 use Rattle.ccr_places.specs.Queues.{QueueState, is_booked}
 use Rattle.ccr_places.specs.Queues as queues
 use Rattle.ccr_places.specs.TaskSets.{task_cmp}
+use Rattle.ccr_places.specs.NotedTasks.{noted_booked, noted_unbooked}
 use Rattle.ccr_claim.specs.declared.asks.Ask.{Ask}
 use Rattle.ccr_claim.specs.declared.asks.Ask.TheVariants as asks
 use Rattle.ccr_claim.specs.declared.asks.Asked.{Asked}
@@ -28,7 +29,7 @@ use Rattle.ccr_actor.specs.Plans.{plan_of}
 use Rattle.ccr_actor.specs.Actors.{State, after, after_attempt, after_in, name_at, shorten}
 use Rattle.ccr_runs.specs.declared.entries.Entry.{Entry}
 use Rattle.ccr_runs.specs.Places.{note_of, queue_note}
-use Rattle.ccr_runs.specs.EntryRuns.{IsRunAfter, Lacks, made_by, notes_at, reply_of, reply_to, same_place, state_of}
+use Rattle.ccr_runs.specs.EntryRuns.{IsRunAfter, Lacks, made_by, notes_at, reply_of, reply_to, same_place, state_of, queue_at}
 use Rattle.ccr_runs.specs.Visible.{visible}
 use Rattle.ccr_net.proofs.Kept.WholeInvariant.{Holds, begins, IsBegun}
 use Rattle.ccr_net.proofs.Parts.TasksAreBookedOnce.{in-less, in-more}
@@ -41,9 +42,8 @@ use Rattle.ccr_net.proofs.Owed.PutTasksAreBooked.{is_booked_at}
 use Rattle.ccr_net.proofs.Played.PlacesByNumber.{same_place-is}
 use Rattle.ccr_net.proofs.Played.PlayedRunsAreRuns.{run_on}
 use Rattle.ccr_net.proofs.Played.HoldersOfTasksAnswer.{run_holds}
-use Rattle.ccr_net.proofs.Parts.OneMoreEntry.{IsNextState, Step, Step-made, along_run, queue_at, queue_at-push, state_of-own}
-use Rattle.ccr_rests.specs.Ends.{EndsBooking, EndsOnce, MayPut, MayUnbook, booked_by, tells, unbooked_by}
-use Rattle.ccr_rests.specs.Keeping.{queue_in}
+use Rattle.ccr_net.proofs.Parts.OneMoreEntry.{IsNextState, Step, Step-made, along_run, queue_at-push, state_of-own}
+use Rattle.ccr_rests.specs.Ends.{EndsBooking, EndsOnce, MayPut, MayUnbook, tells}
 use Rattle.ccr_rests.proofs.BroughtHands.{HandsBrought, IsBrought, hands_brought-kept}
 use Rattle.ccr_rests.proofs.EntryCounts.{AreOwn, Parted, count, count-push, ends_once, own-push, parted}
 use Rattle.ccr_rests.proofs.NoteKinds.{kind_asked, kind_noted}
@@ -66,7 +66,7 @@ less false b c some = refl
 
 -- a booking that is made stands then, and one that is ended stood before
 module _ (queue : QueueState) (t : TaskId) where
-  booked : (u : TaskId) (r : Bool) (o : Option ℕ) → is_booked queue u ≡ false → bit (has_task (booked_by (notes.Book u r o)) t) + bit (is_booked queue t) ≡ bit (has_task (unbooked_by (notes.Book u r o)) t) + bit (is_booked (queues.after_book queue u r o) t)
+  booked : (u : TaskId) (r : Bool) (o : Option ℕ) → is_booked queue u ≡ false → bit (has_task (noted_booked (notes.Book u r o)) t) + bit (is_booked queue t) ≡ bit (has_task (noted_unbooked (notes.Book u r o)) t) + bit (is_booked (queues.after_book queue u r o) t)
   booked u false (Some k) none = refl
   booked u true (Some k) none = refl
   booked u false None none = rw (in-more queue.fresh u t) (more_fresh (same_task t u) (set.contains queue.fresh t) (set.contains queue.resuming t) (λ same. ap (is_booked queue) (same_task-is t u same) ∙ none))
@@ -75,7 +75,7 @@ module _ (queue : QueueState) (t : TaskId) where
   ended : (u : TaskId) → is_booked queue u ≡ true → 0 + bit (is_booked queue t) ≡ bit (has_task (u ∷ []) t) + bit (set.contains (set.remove queue.fresh u) t || set.contains (set.remove queue.resuming u) t)
   ended u there = rw (in-less queue.fresh u t, in-less queue.resuming u t) (less (same_task t u) (set.contains queue.fresh t) (set.contains queue.resuming t) (λ same. ap (is_booked queue) (same_task-is t u same) ∙ there))
 
-  queue_balance : (ask : Ask) (note : Note) → queue_note queue ask ≡ Some note → bit (has_task (booked_by note) t) + bit (is_booked queue t) ≡ bit (has_task (unbooked_by note) t) + bit (is_booked (queues.after queue note) t)
+  queue_balance : (ask : Ask) (note : Note) → queue_note queue ask ≡ Some note → bit (has_task (noted_booked note) t) + bit (is_booked queue t) ≡ bit (has_task (noted_unbooked note) t) + bit (is_booked (queues.after queue note) t)
   queue_balance (asks.Book u r) note is = let parts = given_some (queues.may_book queue u) (notes.Book u r (queues.book_note queue r)) note is in rw parts.1 (booked u r (queues.book_note queue r) (neither (is_booked queue u) (queues.is_queued queue u) (not_true _ parts.0)).0)
   queue_balance (asks.Unbook u) note is = let parts = given_some (queues.may_unbook queue u) (notes.Unbook u) note is in rw parts.1 (ended u parts.0)
   queue_balance (asks.Put task) note is = let parts = given_some (queues.may_put queue task.id) (notes.Put task.id (queues.put_note queue)) note is in rw parts.1 (ended task.id parts.0)
@@ -99,11 +99,11 @@ module _ (queue : QueueState) (t : TaskId) where
 abbrev IsEnding : Ask → Note → TaskId → Type 0
 IsEnding ask note t = ((ask ≡ asks.Unbook t) × (note ≡ notes.Unbook t)) ⊎ ((task : Task) × (d : Option TaskId) × (ask ≡ asks.Put task) × (note ≡ notes.Put t d) × (task.id ≡ t))
 
-ending : (queue : QueueState) (ask : Ask) (note : Note) (t : TaskId) → queue_note queue ask ≡ Some note → has_task (unbooked_by note) t ≡ true → IsEnding ask note t
-ending queue (asks.Unbook u) note t is has = (let noted = (given_some (queues.may_unbook queue u) (notes.Unbook u) note is).1 in let same : t ≡ u = of_one u t (ap (λ n. has_task (unbooked_by n) t) (sym noted) ∙ has) in inl (ap asks.Unbook (sym same), noted ∙ ap notes.Unbook (sym same)))
-ending queue (asks.Put task) note t is has = (let noted = (given_some (queues.may_put queue task.id) (notes.Put task.id (queues.put_note queue)) note is).1 in let same : t ≡ task.id = of_one task.id t (ap (λ n. has_task (unbooked_by n) t) (sym noted) ∙ has) in inr (task, queues.put_note queue, refl, noted ∙ ap (λ u. notes.Put u (queues.put_note queue)) (sym same), sym same))
-ending queue (asks.Book u r) note t is has = absurd (let noted = (given_some (queues.may_book queue u) (notes.Book u r (queues.book_note queue r)) note is).1 in no_both has (ap (λ n. has_task (unbooked_by n) t) noted))
-ending queue asks.Take note t is has = absurd (no_both has (ap (λ n. has_task (unbooked_by n) t) noted))
+ending : (queue : QueueState) (ask : Ask) (note : Note) (t : TaskId) → queue_note queue ask ≡ Some note → has_task (noted_unbooked note) t ≡ true → IsEnding ask note t
+ending queue (asks.Unbook u) note t is has = (let noted = (given_some (queues.may_unbook queue u) (notes.Unbook u) note is).1 in let same : t ≡ u = of_one u t (ap (λ n. has_task (noted_unbooked n) t) (sym noted) ∙ has) in inl (ap asks.Unbook (sym same), noted ∙ ap notes.Unbook (sym same)))
+ending queue (asks.Put task) note t is has = (let noted = (given_some (queues.may_put queue task.id) (notes.Put task.id (queues.put_note queue)) note is).1 in let same : t ≡ task.id = of_one task.id t (ap (λ n. has_task (noted_unbooked n) t) (sym noted) ∙ has) in inr (task, queues.put_note queue, refl, noted ∙ ap (λ u. notes.Put u (queues.put_note queue)) (sym same), sym same))
+ending queue (asks.Book u r) note t is has = absurd (let noted = (given_some (queues.may_book queue u) (notes.Book u r (queues.book_note queue r)) note is).1 in no_both has (ap (λ n. has_task (noted_unbooked n) t) noted))
+ending queue asks.Take note t is has = absurd (no_both has (ap (λ n. has_task (noted_unbooked n) t) noted))
   where
     noted : note ≡ notes.Take (queues.take_note queue)
     noted = cc
@@ -122,7 +122,7 @@ ending queue asks.Left note t is has = absurd (cc)
 -- ---- one entry
 
 -- a booking that was made
-booking_noted : (note : Note) (t : TaskId) → has_task (booked_by note) t ≡ true → (r : Bool) × (note ≡ notes.Book t r None)
+booking_noted : (note : Note) (t : TaskId) → has_task (noted_booked note) t ≡ true → (r : Bool) × (note ≡ notes.Book t r None)
 booking_noted (notes.Book u r None) t has = (r, ap (λ v. notes.Book v r None) (sym (of_one u t has)))
 booking_noted (notes.Book u r (Some k)) t has = absurd (cc)
 booking_noted (notes.Claim u s k) t has = absurd (cc)
@@ -145,19 +145,19 @@ module _ (w : Parts) (n : ℕ) (lacks : Lacks) (es : List Entry) (e : Entry) (ho
   noted_at : (q : ℕ) → same_place e.place (places.Queue q) ≡ true → queue_note (queue_at w es q) step.asking.ask ≡ Some e.note
   noted_at q at = subst (λ pl. note_of w pl (notes_at es pl) step.asking.ask ≡ Some e.note) (sym step.there ∙ same_place-is e.place (places.Queue q) at) step.gives
 
-  entry_balance : (q : ℕ) (t : TaskId) → bit (tells booked_by (places.Queue q) t e) + bit (is_booked_at w es q t) ≡ bit (tells unbooked_by (places.Queue q) t e) + bit (is_booked_at w (es ++ e ∷ []) q t)
-  entry_balance q t = by (same_place e.place (places.Queue q)) refl ∙ ap (λ s. bit (tells unbooked_by (places.Queue q) t e) + bit (is_booked s t)) (sym (queue_at-push w es e q))
+  entry_balance : (q : ℕ) (t : TaskId) → bit (tells noted_booked (places.Queue q) t e) + bit (is_booked_at w es q t) ≡ bit (tells noted_unbooked (places.Queue q) t e) + bit (is_booked_at w (es ++ e ∷ []) q t)
+  entry_balance q t = by (same_place e.place (places.Queue q)) refl ∙ ap (λ s. bit (tells noted_unbooked (places.Queue q) t e) + bit (is_booked s t)) (sym (queue_at-push w es e q))
     where
-      by : (b : Bool) → same_place e.place (places.Queue q) ≡ b → bit (b && has_task (booked_by e.note) t) + bit (is_booked_at w es q t) ≡ bit (b && has_task (unbooked_by e.note) t) + bit (is_booked (if b then queues.after (queue_at w es q) e.note else queue_at w es q) t)
+      by : (b : Bool) → same_place e.place (places.Queue q) ≡ b → bit (b && has_task (noted_booked e.note) t) + bit (is_booked_at w es q t) ≡ bit (b && has_task (noted_unbooked e.note) t) + bit (is_booked (if b then queues.after (queue_at w es q) e.note else queue_at w es q) t)
       by true at = queue_balance (queue_at w es q) t step.asking.ask e.note (noted_at q at)
       by false at = refl
 
   -- who ends a booking
-  ends_by : (q : ℕ) (t : TaskId) → HandsBrought w lacks es → tells unbooked_by (places.Queue q) t e ≡ true → EndsBooking es e.actor e.note
+  ends_by : (q : ℕ) (t : TaskId) → HandsBrought w lacks es → tells noted_unbooked (places.Queue q) t e ≡ true → EndsBooking es e.actor e.note
   ends_by q t brought is = of (ending (queue_at w es q) step.asking.ask e.note t (noted_at q parts.0) parts.1)
     where
-      parts : (same_place e.place (places.Queue q) ≡ true) × (has_task (unbooked_by e.note) t ≡ true)
-      parts = both (same_place e.place (places.Queue q)) (has_task (unbooked_by e.note) t) is
+      parts : (same_place e.place (places.Queue q) ≡ true) × (has_task (noted_unbooked e.note) t ≡ true)
+      parts = both (same_place e.place (places.Queue q)) (has_task (noted_unbooked e.note) t) is
 
       bound : ℕ
       bound = (state_of w lacks es e.actor).attempt
@@ -188,7 +188,7 @@ module _ (w : Parts) (n : ℕ) (lacks : Lacks) (es : List Entry) (e : Entry) (ho
     new : is_claiming (state_of w lacks es e.actor).phase ≡ false
     later : IsOld (state_of w lacks (es ++ e ∷ []) t.actor) t (is_claiming (state_of w lacks (es ++ e ∷ []) t.actor).phase)
 
-  books_new : (t : TaskId) → has_task (booked_by e.note) t ≡ true → BooksNew t
+  books_new : (t : TaskId) → has_task (noted_booked e.note) t ≡ true → BooksNew t
   books_new t has = by (state_of w lacks es e.actor).phase refl
     where
       found : (r : Bool) × (e.note ≡ notes.Book t r None)
@@ -231,27 +231,27 @@ module _ (w : Parts) (n : ℕ) (lacks : Lacks) (es : List Entry) (e : Entry) (ho
 
 -- what is known of the bookings of a run
 pub record BookingsKnown (w : Parts) (lacks : Lacks) (es : List Entry) : Type 0 where
-  pub balanced : (q : ℕ) (t : TaskId) → count booked_by (places.Queue q) t es ≡ count unbooked_by (places.Queue q) t es + bit (is_booked_at w es q t)
-  pub old : (q : ℕ) (t : TaskId) → 1 ≤ count booked_by (places.Queue q) t es → IsOld (state_of w lacks es t.actor) t (is_claiming (state_of w lacks es t.actor).phase)
-  pub once : (q : ℕ) (t : TaskId) → count booked_by (places.Queue q) t es ≤ 1
-  pub own : AreOwn booked_by es
+  pub balanced : (q : ℕ) (t : TaskId) → count noted_booked (places.Queue q) t es ≡ count noted_unbooked (places.Queue q) t es + bit (is_booked_at w es q t)
+  pub old : (q : ℕ) (t : TaskId) → 1 ≤ count noted_booked (places.Queue q) t es → IsOld (state_of w lacks es t.actor) t (is_claiming (state_of w lacks es t.actor).phase)
+  pub once : (q : ℕ) (t : TaskId) → count noted_booked (places.Queue q) t es ≤ 1
+  pub own : AreOwn noted_booked es
   pub brought : HandsBrought w lacks es
 
 module _ (w : Parts) (n : ℕ) (lacks : Lacks) (es : List Entry) (e : Entry) (holds : Holds w n lacks es) (step : Step w lacks es e) (known : BookingsKnown w lacks es) where
-  balanced_on : (q : ℕ) (t : TaskId) → count booked_by (places.Queue q) t (es ++ e ∷ []) ≡ count unbooked_by (places.Queue q) t (es ++ e ∷ []) + bit (is_booked_at w (es ++ e ∷ []) q t)
+  balanced_on : (q : ℕ) (t : TaskId) → count noted_booked (places.Queue q) t (es ++ e ∷ []) ≡ count noted_unbooked (places.Queue q) t (es ++ e ∷ []) + bit (is_booked_at w (es ++ e ∷ []) q t)
   balanced_on q t =
-      let starts = count-push booked_by (places.Queue q) t es e in
-      let ends = count-push unbooked_by (places.Queue q) t es e in
+      let starts = count-push noted_booked (places.Queue q) t es e in
+      let ends = count-push noted_unbooked (places.Queue q) t es e in
       let before = known.balanced q t in
       let one = entry_balance w n lacks es e holds step q t in
       omega (arith, starts, ends, before, one)
 
   -- who is booked for the first time
-  fresh : (q : ℕ) (t : TaskId) → tells booked_by (places.Queue q) t e ≡ true → count booked_by (places.Queue q) t es ≡ 0
-  fresh q t is = by (count booked_by (places.Queue q) t es) refl
+  fresh : (q : ℕ) (t : TaskId) → tells noted_booked (places.Queue q) t e ≡ true → count noted_booked (places.Queue q) t es ≡ 0
+  fresh q t is = by (count noted_booked (places.Queue q) t es) refl
     where
       new : BooksNew w n lacks es e holds step t
-      new = books_new w n lacks es e holds step t (both (same_place e.place (places.Queue q)) (has_task (booked_by e.note) t) is).1
+      new = books_new w n lacks es e holds step t (both (same_place e.place (places.Queue q)) (has_task (noted_booked e.note) t) is).1
 
       here : t.actor ≡ e.actor
       here = ap (λ (u : TaskId). u.actor) new.name
@@ -260,19 +260,19 @@ module _ (w : Parts) (n : ℕ) (lacks : Lacks) (es : List Entry) (e : Entry) (ho
       never (inl below) = (let same = ap (λ (u : TaskId). u.attempt) new.name in omega (arith, same, below))
       never (inr claims_so) = no_both claims_so.1 new.new
 
-      by : (k : ℕ) → count booked_by (places.Queue q) t es ≡ k → count booked_by (places.Queue q) t es ≡ 0
+      by : (k : ℕ) → count noted_booked (places.Queue q) t es ≡ k → count noted_booked (places.Queue q) t es ≡ 0
       by zero at = at
       by (suc k) at = absurd (never (subst (λ a. IsOld (state_of w lacks es a) t (is_claiming (state_of w lacks es a).phase)) here (known.old q t (omega (arith, at)))))
 
-  once_on : (q : ℕ) (t : TaskId) → count booked_by (places.Queue q) t (es ++ e ∷ []) ≤ 1
-  once_on q t = by (tells booked_by (places.Queue q) t e) refl
+  once_on : (q : ℕ) (t : TaskId) → count noted_booked (places.Queue q) t (es ++ e ∷ []) ≤ 1
+  once_on q t = by (tells noted_booked (places.Queue q) t e) refl
     where
-      by : (b : Bool) → tells booked_by (places.Queue q) t e ≡ b → count booked_by (places.Queue q) t (es ++ e ∷ []) ≤ 1
-      by true at = (let none = fresh q t at in let all = count-push booked_by (places.Queue q) t es e in let one = ap bit at in omega (arith, none, all, one))
-      by false at = (let few = known.once q t in let all = count-push booked_by (places.Queue q) t es e in let one = ap bit at in omega (arith, few, all, one))
+      by : (b : Bool) → tells noted_booked (places.Queue q) t e ≡ b → count noted_booked (places.Queue q) t (es ++ e ∷ []) ≤ 1
+      by true at = (let none = fresh q t at in let all = count-push noted_booked (places.Queue q) t es e in let one = ap bit at in omega (arith, none, all, one))
+      by false at = (let few = known.once q t in let all = count-push noted_booked (places.Queue q) t es e in let one = ap bit at in omega (arith, few, all, one))
 
-  old_on : (q : ℕ) (t : TaskId) → 1 ≤ count booked_by (places.Queue q) t (es ++ e ∷ []) → IsOld (state_of w lacks (es ++ e ∷ []) t.actor) t (is_claiming (state_of w lacks (es ++ e ∷ []) t.actor).phase)
-  old_on q t some = by (tells booked_by (places.Queue q) t e) refl
+  old_on : (q : ℕ) (t : TaskId) → 1 ≤ count noted_booked (places.Queue q) t (es ++ e ∷ []) → IsOld (state_of w lacks (es ++ e ∷ []) t.actor) t (is_claiming (state_of w lacks (es ++ e ∷ []) t.actor).phase)
+  old_on q t some = by (tells noted_booked (places.Queue q) t e) refl
     where
       Old : Type 0
       Old = IsOld (state_of w lacks (es ++ e ∷ []) t.actor) t (is_claiming (state_of w lacks (es ++ e ∷ []) t.actor).phase)
@@ -283,12 +283,12 @@ module _ (w : Parts) (n : ℕ) (lacks : Lacks) (es : List Entry) (e : Entry) (ho
       of_old (inr now) (inl more) = inl (let at = now.0 in omega (arith, at, more))
       of_old (inr now) (inr same) = inr (now.0 ∙ sym same.0, same.1 now.1)
 
-      by : (b : Bool) → tells booked_by (places.Queue q) t e ≡ b → Old
-      by true at = (books_new w n lacks es e holds step t (both (same_place e.place (places.Queue q)) (has_task (booked_by e.note) t) at).1).later
-      by false at = of_old (known.old q t (let all = count-push booked_by (places.Queue q) t es e in let none = ap bit at in omega (arith, all, none, some))) (rises w lacks es e step t.actor)
+      by : (b : Bool) → tells noted_booked (places.Queue q) t e ≡ b → Old
+      by true at = (books_new w n lacks es e holds step t (both (same_place e.place (places.Queue q)) (has_task (noted_booked e.note) t) at).1).later
+      by false at = of_old (known.old q t (let all = count-push noted_booked (places.Queue q) t es e in let none = ap bit at in omega (arith, all, none, some))) (rises w lacks es e step t.actor)
 
   pub bookings_known-kept : BookingsKnown w lacks (es ++ e ∷ [])
-  bookings_known-kept = record { balanced = balanced_on; old = old_on; once = once_on; own = own-push booked_by es e (λ t has. sym (ap (λ (u : TaskId). u.actor) (books_new w n lacks es e holds step t has).name)) known.own; brought = hands_brought-kept w n lacks es e holds step known.brought }
+  bookings_known-kept = record { balanced = balanced_on; old = old_on; once = once_on; own = own-push noted_booked es e (λ t has. sym (ap (λ (u : TaskId). u.actor) (books_new w n lacks es e holds step t has).name)) known.own; brought = hands_brought-kept w n lacks es e holds step known.brought }
 
 -- ---- the law
 
@@ -327,7 +327,7 @@ module _ (w : Parts) (workers : ℕ) (lacks : Lacks) (valid : IsValid w) (few : 
         bookings = bookings_known-kept w (length w.posters + workers) lacks past e (holds_so past known.run) (Step-made w lacks past e made) known.bookings;
       }
 
-  module _ (past : List Entry) (e : Entry) (more : List Entry) (run : IsRunAfter w workers lacks [] (past ++ e ∷ more)) (q : ℕ) (t : TaskId) (is : tells unbooked_by (places.Queue q) t e ≡ true) where
+  module _ (past : List Entry) (e : Entry) (more : List Entry) (run : IsRunAfter w workers lacks [] (past ++ e ∷ more)) (q : ℕ) (t : TaskId) (is : tells noted_unbooked (places.Queue q) t e ≡ true) where
     parts : Parted w workers lacks past e more
     parts = parted w workers lacks past e more run
 
@@ -337,24 +337,24 @@ module _ (w : Parts) (workers : ℕ) (lacks : Lacks) (valid : IsValid w) (few : 
     known : BookingsKnown w lacks past
     known = (run_known past parts.run).bookings
 
-    balance : bit (tells booked_by (places.Queue q) t e) + bit (is_booked_at w past q t) ≡ bit (tells unbooked_by (places.Queue q) t e) + bit (is_booked_at w (past ++ e ∷ []) q t)
+    balance : bit (tells noted_booked (places.Queue q) t e) + bit (is_booked_at w past q t) ≡ bit (tells noted_unbooked (places.Queue q) t e) + bit (is_booked_at w (past ++ e ∷ []) q t)
     balance = entry_balance w (length w.posters + workers) lacks past e (holds_so past parts.run) step q t
 
     pub booking_by : EndsBooking past e.actor e.note
     booking_by = ends_by w (length w.posters + workers) lacks past e (holds_so past parts.run) step q t known.brought is
 
-    not_booked : bit (tells booked_by (places.Queue q) t e) ≤ 0
-    not_booked = by (tells booked_by (places.Queue q) t e) refl
+    not_booked : bit (tells noted_booked (places.Queue q) t e) ≤ 0
+    not_booked = by (tells noted_booked (places.Queue q) t e) refl
       where
-        by : (b : Bool) → tells booked_by (places.Queue q) t e ≡ b → bit b ≤ 0
+        by : (b : Bool) → tells noted_booked (places.Queue q) t e ≡ b → bit b ≤ 0
         by false at = omega arith
         by true at =
-            let books = both (same_place e.place (places.Queue q)) (has_task (booked_by e.note) t) at in
-            let ends = both (same_place e.place (places.Queue q)) (has_task (unbooked_by e.note) t) is in
-            absurd (no_both ends.1 (ap (λ x. has_task (unbooked_by x) t) (booking_noted e.note t books.1).1))
+            let books = both (same_place e.place (places.Queue q)) (has_task (noted_booked e.note) t) at in
+            let ends = both (same_place e.place (places.Queue q)) (has_task (noted_unbooked e.note) t) is in
+            absurd (no_both ends.1 (ap (λ x. has_task (noted_unbooked x) t) (booking_noted e.note t books.1).1))
 
     -- what is booked before and after
-    booked_then : (bit (is_booked_at w past q t) ≡ 1) × (count booked_by (places.Queue q) t past ≡ 1) × (count unbooked_by (places.Queue q) t past ≡ 0) × (bit (is_booked_at w (past ++ e ∷ []) q t) ≡ 0)
+    booked_then : (bit (is_booked_at w past q t) ≡ 1) × (count noted_booked (places.Queue q) t past ≡ 1) × (count noted_unbooked (places.Queue q) t past ≡ 0) × (bit (is_booked_at w (past ++ e ∷ []) q t) ≡ 0)
     booked_then =
         let before = known.balanced q t in
         let once = known.once q t in
@@ -374,15 +374,15 @@ module _ (w : Parts) (workers : ℕ) (lacks : Lacks) (valid : IsValid w) (few : 
     of_bit true false same = absurd (omega (arith, same))
     of_bit false true same = absurd (omega (arith, same))
 
-    pub booking_stands : is_booked (queue_in w past q) t ≡ true
+    pub booking_stands : is_booked (queue_at w past q) t ≡ true
     booking_stands = of_bit (is_booked_at w past q t) true booked_then.0
 
-    pub booking_ended : is_booked (queue_in w (past ++ e ∷ []) q) t ≡ false
+    pub booking_ended : is_booked (queue_at w (past ++ e ∷ []) q) t ≡ false
     booking_ended = of_bit (is_booked_at w (past ++ e ∷ []) q t) false booked_then.3
 
-    pub booking_once : EndsOnce booked_by unbooked_by (places.Queue q) t past e more
+    pub booking_once : EndsOnce noted_booked noted_unbooked (places.Queue q) t past e more
     booking_once =
         let all = (run_known (past ++ e ∷ more) run).bookings in
         let few_begun = all.once q t in
         let sums = all.balanced q t in
-        ends_once booked_by unbooked_by (places.Queue q) t past e more known.own is booked_then.1 booked_then.2 few_begun (omega (arith, few_begun, sums))
+        ends_once noted_booked noted_unbooked (places.Queue q) t past e more known.own is booked_then.1 booked_then.2 few_begun (omega (arith, few_begun, sums))

@@ -11,9 +11,10 @@ use Rattle.ccr_wiring.specs.declared.parts.Parts.{Parts}
 use Rattle.ccr_model.specs.Firings.{fired}
 use Rattle.ccr_base.proofs.Booleans.{eq-self, no_both, or_left, or_right, refuted, same_number}
 use Rattle.ccr_model.proofs.Members.{Among, Among-either}
-use Rattle.ccr_model.proofs.SameNames.{same_task-self}
+use Rattle.ccr_base.proofs.SameNames.{same_task-self}
 use Rattle.ccr_places.specs.declared.notes.Note.{Note}
 use Rattle.ccr_places.specs.declared.notes.Note.TheVariants as notes
+use Rattle.ccr_places.specs.NotedTasks.{noted_cut, noted_admitted}
 use Rattle.ccr_claim.specs.declared.asks.Ask.{Ask}
 use Rattle.ccr_claim.specs.declared.asks.Ask.TheVariants as asks
 use Rattle.ccr_claim.specs.declared.asks.Asked.{Asked}
@@ -30,7 +31,7 @@ use Rattle.ccr_net.proofs.Kept.WholeInvariant.{Holds}
 use Rattle.ccr_net.proofs.Owed.WorkKeepsStates.{Worked, worked}
 use Rattle.ccr_net.proofs.Owed.EntriesAreMoves.{Move, settles, drops, admits, strikes, books, claims, fires, gives_up, goes, handed, moved}
 use Rattle.ccr_net.proofs.Parts.OneMoreEntry.{IsNextState, Step, state_of-own, state_of-other}
-use Rattle.ccr_rests.specs.Ends.{admitted_by, cut_by, has_told}
+use Rattle.ccr_rests.specs.Ends.{has_told}
 use Rattle.ccr_rests.proofs.Fires.{IsFiring, fire_counts, fired_then}
 use Rattle.ccr_rests.proofs.Rising.{Rises, fires_itself, rises_next}
 
@@ -49,8 +50,8 @@ told_now names t es e is = told-push names e.actor t es e ∙ or_right (has_told
 
 -- a put: of the actor's own attempt, or of a task that it admitted; an end of a booking: of an attempt of its own that never fired, or of a task that it cut
 abbrev pub IsBrought : List Entry → ℕ → ℕ → Ask → Type 0
-IsBrought es a bound (asks.Put task) = (a ≡ task.id.actor) ⊎ (has_told admitted_by a task.id es ≡ true)
-IsBrought es a bound (asks.Unbook t) = ((a ≡ t.actor) × (t.attempt < bound) × (has_task (fired (visible es)) t ≡ false)) ⊎ (has_told cut_by a t es ≡ true)
+IsBrought es a bound (asks.Put task) = (a ≡ task.id.actor) ⊎ (has_told noted_admitted a task.id es ≡ true)
+IsBrought es a bound (asks.Unbook t) = ((a ≡ t.actor) × (t.attempt < bound) × (has_task (fired (visible es)) t ≡ false)) ⊎ (has_told noted_cut a t es ≡ true)
 IsBrought es a bound _ = Unit {0}
 
 abbrev pub AreBrought : List Entry → ℕ → ℕ → List Asked → Type 0
@@ -105,9 +106,9 @@ module _ (w : Parts) (n : ℕ) (lacks : Lacks) (es : List Entry) (e : Entry) (ho
   -- what was in hand is brought then too
   brought_on : (a bound : ℕ) (ask : Ask) → (state_of w lacks es a).attempt ≤ bound → IsBrought es a (state_of w lacks es a).attempt ask → IsBrought (es ++ e ∷ []) a bound ask
   brought_on a bound (asks.Put task) more (inl own) = inl own
-  brought_on a bound (asks.Put task) more (inr told) = inr (told_still admitted_by a task.id es e told)
+  brought_on a bound (asks.Put task) more (inr told) = inr (told_still noted_admitted a task.id es e told)
   brought_on a bound (asks.Unbook t) more (inl own) = inl (own.0, (let low = own.1 in omega (arith, low, more)), unfired_on t (subst (λ k. t.attempt < (state_of w lacks es k).attempt) own.0 own.1) own.2)
-  brought_on a bound (asks.Unbook t) more (inr told) = inr (told_still cut_by a t es e told)
+  brought_on a bound (asks.Unbook t) more (inr told) = inr (told_still noted_cut a t es e told)
   brought_on a bound (asks.Post m) more is = tt
   brought_on a bound (asks.Claim t s) more is = tt
   brought_on a bound (asks.Consume t) more is = tt
@@ -143,7 +144,7 @@ module _ (w : Parts) (n : ℕ) (lacks : Lacks) (es : List Entry) (e : Entry) (ho
         of (inr now) = (let counts = (fire_counts w n lacks es e holds step (name_at e.actor (state_of w lacks es e.actor)) now).fired in omega (arith, counts, same))
 
     cut_brought : (bound : ℕ) (u : TaskId) (s : Spot) (ms : List MsgId) (cs : List TaskId) → e.note ≡ notes.Fired u s ms cs → AreBrought (es ++ e ∷ []) e.actor bound (map cut_ask (map (cut_view w (visible (es ++ e ∷ []))) cs))
-    cut_brought bound u s ms cs noted = all_brought (es ++ e ∷ []) e.actor bound cut_ask (map (cut_view w (visible (es ++ e ∷ []))) cs) (λ c is. inr (told_now cut_by c.task es e (ap (λ note. has_task (cut_by note) c.task) noted ∙ within cs c is)))
+    cut_brought bound u s ms cs noted = all_brought (es ++ e ∷ []) e.actor bound cut_ask (map (cut_view w (visible (es ++ e ∷ []))) cs) (λ c is. inr (told_now noted_cut c.task es e (ap (λ note. has_task (noted_cut note) c.task) noted ∙ within cs c is)))
       where
         within : (ts : List TaskId) (c : Cut) → Among c (map (cut_view w (visible (es ++ e ∷ []))) ts) → has_task ts c.task ≡ true
         within [] c is = absurd is
@@ -162,7 +163,7 @@ module _ (w : Parts) (n : ℕ) (lacks : Lacks) (es : List Entry) (e : Entry) (ho
         of_hand : (y : Asked) → (y ≡ over_dropped (view w (visible (es ++ e ∷ [])) d)) ⊎ Among y more → IsBrought (es ++ e ∷ []) e.actor (state_of w lacks es e.actor).attempt y.ask
         of_hand y (inl same) = subst (λ (z : Asked). IsBrought (es ++ e ∷ []) e.actor (state_of w lacks es e.actor).attempt z.ask) (sym same) tt
         of_hand y (inr among) = kept (state_of w lacks es e.actor).attempt more (omega arith) (λ z is_in. subst (Among z) (sym hand) (inr is_in)) y among
-    move_brought new (admits i more t hand numbers given note is) at = subst (λ (s : State). AreBrought (es ++ e ∷ []) e.actor s.attempt s.hand) (sym is) (one_brought (es ++ e ∷ []) e.actor (state_of w lacks es e.actor).attempt _ (inr (told_now admitted_by t es e (ap (λ m. has_task (admitted_by m) t) note ∙ or_left (same_task t t) false (same_task-self t)))))
+    move_brought new (admits i more t hand numbers given note is) at = subst (λ (s : State). AreBrought (es ++ e ∷ []) e.actor s.attempt s.hand) (sym is) (one_brought (es ++ e ∷ []) e.actor (state_of w lacks es e.actor).attempt _ (inr (told_now noted_admitted t es e (ap (λ m. has_task (noted_admitted m) t) note ∙ or_left (same_task t t) false (same_task-self t)))))
     move_brought new (strikes i more hand numbers given is) at = subst (λ (s : State). AreBrought (es ++ e ∷ []) e.actor s.attempt s.hand) (sym is) (kept (state_of w lacks es e.actor).attempt (state_of w lacks es e.actor).hand (omega arith) (λ y among. among))
     move_brought new (books spot more hand spots phase given note is) at = subst (λ (s : State). AreBrought (es ++ e ∷ []) e.actor s.attempt s.hand) (sym is) (kept (state_of w lacks es e.actor).attempt (state_of w lacks es e.actor).hand (omega arith) (λ y among. among))
     move_brought new (claims spot more slot slots had k hand spots phase given free note is) at = subst (λ (s : State). AreBrought (es ++ e ∷ []) e.actor s.attempt s.hand) (sym is) (kept (state_of w lacks es e.actor).attempt (state_of w lacks es e.actor).hand (omega arith) (λ y among. among))

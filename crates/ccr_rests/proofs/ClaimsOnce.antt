@@ -9,7 +9,7 @@ use Rattle.ccr_base.specs.Names.{same_task, has_task}
 use Rattle.ccr_wiring.specs.declared.parts.Parts.{Parts}
 use Rattle.ccr_wiring.specs.Valid.{IsValid}
 use Rattle.ccr_base.proofs.Booleans.{both, no_both, not_true, and_false}
-use Rattle.ccr_model.proofs.SameNames.{same_task-is}
+use Rattle.ccr_base.proofs.SameNames.{same_task-is}
 use Rattle.ccr_model.proofs.TaskLists.{of_one}
 use Rattle.ccr_places.specs.declared.claims.StandingClaim.{StandingClaim}
 use Rattle.ccr_places.specs.declared.notes.ClaimNote.{ClaimNote}
@@ -18,6 +18,7 @@ use Rattle.ccr_places.specs.declared.notes.Note.{Note}
 use Rattle.ccr_places.specs.declared.notes.Note.TheVariants as notes
 use Rattle.ccr_places.specs.Ports.{PortState, is_claimed_by}
 use Rattle.ccr_places.specs.Ports as ports
+use Rattle.ccr_places.specs.NotedTasks.{noted_claimed, noted_unclaimed}
 use Rattle.ccr_claim.specs.declared.asks.Ask.{Ask}
 use Rattle.ccr_claim.specs.declared.asks.Ask.TheVariants as asks
 use Rattle.ccr_claim.specs.Attempts.{Phase, booking, claiming, attempt_ask}
@@ -38,7 +39,7 @@ use Rattle.ccr_net.proofs.Played.PlacesByNumber.{same_place-is}
 use Rattle.ccr_net.proofs.Played.PlayedRunsAreRuns.{run_on}
 use Rattle.ccr_net.proofs.Played.HoldersOfTasksAnswer.{run_holds}
 use Rattle.ccr_net.proofs.Parts.OneMoreEntry.{Step, Step-made, along_run, port_at-push}
-use Rattle.ccr_rests.specs.Ends.{EndsClaim, EndsOnce, claimed_by, tells, unclaimed_by}
+use Rattle.ccr_rests.specs.Ends.{EndsClaim, EndsOnce, tells}
 use Rattle.ccr_rests.proofs.EntryCounts.{AreOwn, Parted, count, count-push, ends_once, low_actors, own-push, parted, some_telling}
 use Rattle.ccr_rests.proofs.NoteKinds.{kind_asked, kind_noted}
 use Rattle.ccr_rests.proofs.Rising.{IsOld, Rises, Tries, from_hand, rises, tries}
@@ -54,7 +55,7 @@ claim_is port u t is = by port.claim is
     by (Some c) now = ap (same_task t) (sym (same_task-is u c.task now))
 
 -- a claim that is got stands then, and one that is ended stood before
-port_balance : (port : PortState) (ask : Ask) (note : Note) (t : TaskId) → port_note port ask ≡ Some note → bit (has_task (claimed_by note) t) + bit (is_claimed_by port t) ≡ bit (has_task (unclaimed_by note) t) + bit (is_claimed_by (ports.after port note) t)
+port_balance : (port : PortState) (ask : Ask) (note : Note) (t : TaskId) → port_note port ask ≡ Some note → bit (has_task (noted_claimed note) t) + bit (is_claimed_by port t) ≡ bit (has_task (noted_unclaimed note) t) + bit (is_claimed_by (ports.after port note) t)
 port_balance port (asks.Post m) note t is = rw ((given_some (ports.may_post port m) (notes.Post m) note is).1) refl
 port_balance port (asks.Claim u s) note t is = rw ((given_some (ports.may_claim port u s) (notes.Claim u s (ports.claim_note port s)) note is).1) (by port.claim refl)
   where
@@ -62,14 +63,14 @@ port_balance port (asks.Claim u s) note t is = rw ((given_some (ports.may_claim 
     of_bit true = refl
     of_bit false = refl
 
-    of_note : (n : ClaimNote) → port.claim ≡ None → bit (has_task (claimed_by (notes.Claim u s n)) t) + bit (is_claimed_by port t) ≡ bit (has_task (unclaimed_by (notes.Claim u s n)) t) + bit (is_claimed_by (ports.after_claim port u s n) t)
+    of_note : (n : ClaimNote) → port.claim ≡ None → bit (has_task (noted_claimed (notes.Claim u s n)) t) + bit (is_claimed_by port t) ≡ bit (has_task (noted_unclaimed (notes.Claim u s n)) t) + bit (is_claimed_by (ports.after_claim port u s n) t)
     of_note (Got k) none = rw none (of_bit (same_task t u))
     of_note (Busy v) none = refl
     of_note (Short k) none = refl
 
-    by : (o : Option StandingClaim) → port.claim ≡ o → bit (has_task (claimed_by (notes.Claim u s (ports.claim_note port s))) t) + bit (is_claimed_by port t) ≡ bit (has_task (unclaimed_by (notes.Claim u s (ports.claim_note port s))) t) + bit (is_claimed_by (ports.after_claim port u s (ports.claim_note port s)) t)
+    by : (o : Option StandingClaim) → port.claim ≡ o → bit (has_task (noted_claimed (notes.Claim u s (ports.claim_note port s))) t) + bit (is_claimed_by port t) ≡ bit (has_task (noted_unclaimed (notes.Claim u s (ports.claim_note port s))) t) + bit (is_claimed_by (ports.after_claim port u s (ports.claim_note port s)) t)
     by None none = of_note (ports.claim_note port s) none
-    by (Some c) some = subst (λ n. bit (has_task (claimed_by (notes.Claim u s n)) t) + bit (is_claimed_by port t) ≡ bit (has_task (unclaimed_by (notes.Claim u s n)) t) + bit (is_claimed_by (ports.after_claim port u s n) t)) (sym busy) refl
+    by (Some c) some = subst (λ n. bit (has_task (noted_claimed (notes.Claim u s n)) t) + bit (is_claimed_by port t) ≡ bit (has_task (noted_unclaimed (notes.Claim u s n)) t) + bit (is_claimed_by (ports.after_claim port u s n) t)) (sym busy) refl
       where
         busy : ports.claim_note port s ≡ Busy c.task
         busy = ap (λ o. option_map_or (λ (claim : StandingClaim). Busy claim.task) o (ports.free_claim_note s port.items)) some
@@ -99,11 +100,11 @@ port_balance port asks.Left note t is = absurd (cc)
 abbrev IsEnding : Ask → Note → TaskId → Type 0
 IsEnding ask note t = ((ask ≡ asks.Consume t) × (note ≡ notes.Consume t)) ⊎ ((ask ≡ asks.Free t) × (note ≡ notes.Free t))
 
-ending : (port : PortState) (ask : Ask) (note : Note) (t : TaskId) → port_note port ask ≡ Some note → has_task (unclaimed_by note) t ≡ true → IsEnding ask note t
-ending port (asks.Consume u) note t is has = (let noted = (given_some (ports.may_consume port u) (notes.Consume u) note is).1 in let same : t ≡ u = of_one u t (ap (λ n. has_task (unclaimed_by n) t) (sym noted) ∙ has) in inl (ap asks.Consume (sym same), noted ∙ ap notes.Consume (sym same)))
-ending port (asks.Free u) note t is has = (let noted = (given_some (ports.may_free port u) (notes.Free u) note is).1 in let same : t ≡ u = of_one u t (ap (λ n. has_task (unclaimed_by n) t) (sym noted) ∙ has) in inr (ap asks.Free (sym same), noted ∙ ap notes.Free (sym same)))
-ending port (asks.Post m) note t is has = absurd (let noted = (given_some (ports.may_post port m) (notes.Post m) note is).1 in no_both has (ap (λ n. has_task (unclaimed_by n) t) noted))
-ending port (asks.Claim u s) note t is has = absurd (let noted = (given_some (ports.may_claim port u s) (notes.Claim u s (ports.claim_note port s)) note is).1 in no_both has (ap (λ n. has_task (unclaimed_by n) t) noted))
+ending : (port : PortState) (ask : Ask) (note : Note) (t : TaskId) → port_note port ask ≡ Some note → has_task (noted_unclaimed note) t ≡ true → IsEnding ask note t
+ending port (asks.Consume u) note t is has = (let noted = (given_some (ports.may_consume port u) (notes.Consume u) note is).1 in let same : t ≡ u = of_one u t (ap (λ n. has_task (noted_unclaimed n) t) (sym noted) ∙ has) in inl (ap asks.Consume (sym same), noted ∙ ap notes.Consume (sym same)))
+ending port (asks.Free u) note t is has = (let noted = (given_some (ports.may_free port u) (notes.Free u) note is).1 in let same : t ≡ u = of_one u t (ap (λ n. has_task (noted_unclaimed n) t) (sym noted) ∙ has) in inr (ap asks.Free (sym same), noted ∙ ap notes.Free (sym same)))
+ending port (asks.Post m) note t is has = absurd (let noted = (given_some (ports.may_post port m) (notes.Post m) note is).1 in no_both has (ap (λ n. has_task (noted_unclaimed n) t) noted))
+ending port (asks.Claim u s) note t is has = absurd (let noted = (given_some (ports.may_claim port u s) (notes.Claim u s (ports.claim_note port s)) note is).1 in no_both has (ap (λ n. has_task (noted_unclaimed n) t) noted))
 ending port (asks.Commit task ms) note t is has = absurd (cc)
 ending port asks.Admit note t is has = absurd (cc)
 ending port (asks.Over u r how) note t is has = absurd (cc)
@@ -119,7 +120,7 @@ ending port asks.Left note t is has = absurd (cc)
 -- ---- one entry
 
 -- a claim that got its messages
-claim_noted : (note : Note) (t : TaskId) → has_task (claimed_by note) t ≡ true → (s : Slot) × (k : ℕ) × (note ≡ notes.Claim t s (Got k))
+claim_noted : (note : Note) (t : TaskId) → has_task (noted_claimed note) t ≡ true → (s : Slot) × (k : ℕ) × (note ≡ notes.Claim t s (Got k))
 claim_noted (notes.Claim u s (Got k)) t has = (s, k, ap (λ v. notes.Claim v s (Got k)) (sym (of_one u t has)))
 claim_noted (notes.Claim u s (Busy v)) t has = absurd (cc)
 claim_noted (notes.Claim u s (Short k)) t has = absurd (cc)
@@ -143,10 +144,10 @@ module _ (w : Parts) (n : ℕ) (lacks : Lacks) (es : List Entry) (e : Entry) (ho
   noted_at : (p : ℕ) → same_place e.place (places.Port p) ≡ true → port_note (port_at es p) step.asking.ask ≡ Some e.note
   noted_at p at = subst (λ pl. note_of w pl (notes_at es pl) step.asking.ask ≡ Some e.note) (sym step.there ∙ same_place-is e.place (places.Port p) at) step.gives
 
-  entry_balance : (p : ℕ) (t : TaskId) → bit (tells claimed_by (places.Port p) t e) + bit (is_claimed es p t) ≡ bit (tells unclaimed_by (places.Port p) t e) + bit (is_claimed (es ++ e ∷ []) p t)
-  entry_balance p t = by (same_place e.place (places.Port p)) refl ∙ ap (λ s. bit (tells unclaimed_by (places.Port p) t e) + bit (is_claimed_by s t)) (sym (port_at-push es e p))
+  entry_balance : (p : ℕ) (t : TaskId) → bit (tells noted_claimed (places.Port p) t e) + bit (is_claimed es p t) ≡ bit (tells noted_unclaimed (places.Port p) t e) + bit (is_claimed (es ++ e ∷ []) p t)
+  entry_balance p t = by (same_place e.place (places.Port p)) refl ∙ ap (λ s. bit (tells noted_unclaimed (places.Port p) t e) + bit (is_claimed_by s t)) (sym (port_at-push es e p))
     where
-      by : (b : Bool) → same_place e.place (places.Port p) ≡ b → bit (b && has_task (claimed_by e.note) t) + bit (is_claimed es p t) ≡ bit (b && has_task (unclaimed_by e.note) t) + bit (is_claimed_by (if b then ports.after (port_at es p) e.note else port_at es p) t)
+      by : (b : Bool) → same_place e.place (places.Port p) ≡ b → bit (b && has_task (noted_claimed e.note) t) + bit (is_claimed es p t) ≡ bit (b && has_task (noted_unclaimed e.note) t) + bit (is_claimed_by (if b then ports.after (port_at es p) e.note else port_at es p) t)
       by true at = port_balance (port_at es p) step.asking.ask e.note t (noted_at p at)
       by false at = refl
 
@@ -156,11 +157,11 @@ module _ (w : Parts) (n : ℕ) (lacks : Lacks) (es : List Entry) (e : Entry) (ho
     own : t.actor ≡ e.actor
     old : t.attempt < (state_of w lacks es e.actor).attempt
 
-  ends_own : (p : ℕ) (t : TaskId) → tells unclaimed_by (places.Port p) t e ≡ true → EndsOwn t
+  ends_own : (p : ℕ) (t : TaskId) → tells noted_unclaimed (places.Port p) t e ≡ true → EndsOwn t
   ends_own p t is = of (ending (port_at es p) step.asking.ask e.note t (noted_at p parts.0) parts.1)
     where
-      parts : (same_place e.place (places.Port p) ≡ true) × (has_task (unclaimed_by e.note) t ≡ true)
-      parts = both (same_place e.place (places.Port p)) (has_task (unclaimed_by e.note) t) is
+      parts : (same_place e.place (places.Port p) ≡ true) × (has_task (noted_unclaimed e.note) t ≡ true)
+      parts = both (same_place e.place (places.Port p)) (has_task (noted_unclaimed e.note) t) is
 
       of : IsEnding step.asking.ask e.note t → EndsOwn t
       of (inl found) =
@@ -177,7 +178,7 @@ module _ (w : Parts) (n : ℕ) (lacks : Lacks) (es : List Entry) (e : Entry) (ho
     name : t ≡ name_at e.actor (state_of w lacks es e.actor)
     free : same_place e.place (places.Port p) ≡ true → is_claimed es p t ≡ false
 
-  claims_new : (p : ℕ) (t : TaskId) → has_task (claimed_by e.note) t ≡ true → ClaimsNew p t
+  claims_new : (p : ℕ) (t : TaskId) → has_task (noted_claimed e.note) t ≡ true → ClaimsNew p t
   claims_new p t has = by (state_of w lacks es e.actor).phase refl
     where
       found : (s : Slot) × (k : ℕ) × (e.note ≡ notes.Claim t s (Got k))
@@ -216,30 +217,30 @@ module _ (w : Parts) (n : ℕ) (lacks : Lacks) (es : List Entry) (e : Entry) (ho
 
 -- what is known of the claims of a run
 pub record ClaimsKnown (w : Parts) (lacks : Lacks) (es : List Entry) : Type 0 where
-  pub balanced : (p : ℕ) (t : TaskId) → count claimed_by (places.Port p) t es ≡ count unclaimed_by (places.Port p) t es + bit (is_claimed es p t)
-  pub old : (p : ℕ) (t : TaskId) → 1 ≤ count claimed_by (places.Port p) t es → IsOld (state_of w lacks es t.actor) t (is_claimed es p t)
-  pub once : (p : ℕ) (t : TaskId) → count claimed_by (places.Port p) t es ≤ 1
-  pub own : AreOwn claimed_by es
+  pub balanced : (p : ℕ) (t : TaskId) → count noted_claimed (places.Port p) t es ≡ count noted_unclaimed (places.Port p) t es + bit (is_claimed es p t)
+  pub old : (p : ℕ) (t : TaskId) → 1 ≤ count noted_claimed (places.Port p) t es → IsOld (state_of w lacks es t.actor) t (is_claimed es p t)
+  pub once : (p : ℕ) (t : TaskId) → count noted_claimed (places.Port p) t es ≤ 1
+  pub own : AreOwn noted_claimed es
 
 module _ (w : Parts) (n : ℕ) (lacks : Lacks) (es : List Entry) (e : Entry) (holds : Holds w n lacks es) (step : Step w lacks es e) (known : ClaimsKnown w lacks es) where
   bit_true : (b : Bool) → 1 ≤ bit b → b ≡ true
   bit_true true is = refl
   bit_true false is = absurd (omega (arith, is))
 
-  balanced_on : (p : ℕ) (t : TaskId) → count claimed_by (places.Port p) t (es ++ e ∷ []) ≡ count unclaimed_by (places.Port p) t (es ++ e ∷ []) + bit (is_claimed (es ++ e ∷ []) p t)
+  balanced_on : (p : ℕ) (t : TaskId) → count noted_claimed (places.Port p) t (es ++ e ∷ []) ≡ count noted_unclaimed (places.Port p) t (es ++ e ∷ []) + bit (is_claimed (es ++ e ∷ []) p t)
   balanced_on p t =
-      let begins = count-push claimed_by (places.Port p) t es e in
-      let ends = count-push unclaimed_by (places.Port p) t es e in
+      let begins = count-push noted_claimed (places.Port p) t es e in
+      let ends = count-push noted_unclaimed (places.Port p) t es e in
       let before = known.balanced p t in
       let one = entry_balance w n lacks es e holds step p t in
       omega (arith, begins, ends, before, one)
 
   -- who claims here for the first time
-  fresh : (p : ℕ) (t : TaskId) → tells claimed_by (places.Port p) t e ≡ true → count claimed_by (places.Port p) t es ≡ 0
-  fresh p t is = by (count claimed_by (places.Port p) t es) refl
+  fresh : (p : ℕ) (t : TaskId) → tells noted_claimed (places.Port p) t e ≡ true → count noted_claimed (places.Port p) t es ≡ 0
+  fresh p t is = by (count noted_claimed (places.Port p) t es) refl
     where
-      parts : (same_place e.place (places.Port p) ≡ true) × (has_task (claimed_by e.note) t ≡ true)
-      parts = both (same_place e.place (places.Port p)) (has_task (claimed_by e.note) t) is
+      parts : (same_place e.place (places.Port p) ≡ true) × (has_task (noted_claimed e.note) t ≡ true)
+      parts = both (same_place e.place (places.Port p)) (has_task (noted_claimed e.note) t) is
 
       new : ClaimsNew w n lacks es e holds step p t
       new = claims_new w n lacks es e holds step p t parts.1
@@ -248,19 +249,19 @@ module _ (w : Parts) (n : ℕ) (lacks : Lacks) (es : List Entry) (e : Entry) (ho
       never (inl below) = (let same = ap (λ (u : TaskId). u.attempt) new.name in let low : t.attempt < (state_of w lacks es e.actor).attempt = subst (λ a. t.attempt < (state_of w lacks es a).attempt) (ap (λ (u : TaskId). u.actor) new.name) below in omega (arith, same, low))
       never (inr stands) = no_both stands.1 (new.free parts.0)
 
-      by : (k : ℕ) → count claimed_by (places.Port p) t es ≡ k → count claimed_by (places.Port p) t es ≡ 0
+      by : (k : ℕ) → count noted_claimed (places.Port p) t es ≡ k → count noted_claimed (places.Port p) t es ≡ 0
       by zero at = at
       by (suc k) at = absurd (never (known.old p t (omega (arith, at))))
 
-  once_on : (p : ℕ) (t : TaskId) → count claimed_by (places.Port p) t (es ++ e ∷ []) ≤ 1
-  once_on p t = by (tells claimed_by (places.Port p) t e) refl
+  once_on : (p : ℕ) (t : TaskId) → count noted_claimed (places.Port p) t (es ++ e ∷ []) ≤ 1
+  once_on p t = by (tells noted_claimed (places.Port p) t e) refl
     where
-      by : (b : Bool) → tells claimed_by (places.Port p) t e ≡ b → count claimed_by (places.Port p) t (es ++ e ∷ []) ≤ 1
-      by true at = (let none = fresh p t at in let all = count-push claimed_by (places.Port p) t es e in let one = ap bit at in omega (arith, none, all, one))
-      by false at = (let few = known.once p t in let all = count-push claimed_by (places.Port p) t es e in let one = ap bit at in omega (arith, few, all, one))
+      by : (b : Bool) → tells noted_claimed (places.Port p) t e ≡ b → count noted_claimed (places.Port p) t (es ++ e ∷ []) ≤ 1
+      by true at = (let none = fresh p t at in let all = count-push noted_claimed (places.Port p) t es e in let one = ap bit at in omega (arith, none, all, one))
+      by false at = (let few = known.once p t in let all = count-push noted_claimed (places.Port p) t es e in let one = ap bit at in omega (arith, few, all, one))
 
-  old_on : (p : ℕ) (t : TaskId) → 1 ≤ count claimed_by (places.Port p) t (es ++ e ∷ []) → IsOld (state_of w lacks (es ++ e ∷ []) t.actor) t (is_claimed (es ++ e ∷ []) p t)
-  old_on p t some = by (tells claimed_by (places.Port p) t e) refl (tells unclaimed_by (places.Port p) t e) refl
+  old_on : (p : ℕ) (t : TaskId) → 1 ≤ count noted_claimed (places.Port p) t (es ++ e ∷ []) → IsOld (state_of w lacks (es ++ e ∷ []) t.actor) t (is_claimed (es ++ e ∷ []) p t)
+  old_on p t some = by (tells noted_claimed (places.Port p) t e) refl (tells noted_unclaimed (places.Port p) t e) refl
     where
       Old : Type 0
       Old = IsOld (state_of w lacks (es ++ e ∷ []) t.actor) t (is_claimed (es ++ e ∷ []) p t)
@@ -278,37 +279,37 @@ module _ (w : Parts) (n : ℕ) (lacks : Lacks) (es : List Entry) (e : Entry) (ho
       here at stands (inl more) = inl (omega (arith, at, more))
       here at stands (inr same) = inr (at ∙ sym same.0, stands)
 
-      of_old : IsOld (state_of w lacks es t.actor) t (is_claimed es p t) → tells claimed_by (places.Port p) t e ≡ false → (c : Bool) → tells unclaimed_by (places.Port p) t e ≡ c → Old
+      of_old : IsOld (state_of w lacks es t.actor) t (is_claimed es p t) → tells noted_claimed (places.Port p) t e ≡ false → (c : Bool) → tells noted_unclaimed (places.Port p) t e ≡ c → Old
       of_old (inl low) quiet c ends = below low risen
       of_old (inr stood) quiet true ends = absurd (let own = ends_own w n lacks es e holds step p t ends in let low : t.attempt < (state_of w lacks es t.actor).attempt = subst (λ a. t.attempt < (state_of w lacks es a).attempt) (sym own.own) own.old in let at = stood.0 in omega (arith, at, low))
       of_old (inr stood) quiet false ends = here stood.0 (bit_true (is_claimed (es ++ e ∷ []) p t) (let balance = entry_balance w n lacks es e holds step p t in let none = ap bit quiet in let neither = ap bit ends in let was = ap bit stood.1 in omega (arith, balance, none, neither, was))) risen
 
-      by : (b : Bool) → tells claimed_by (places.Port p) t e ≡ b → (c : Bool) → tells unclaimed_by (places.Port p) t e ≡ c → Old
+      by : (b : Bool) → tells noted_claimed (places.Port p) t e ≡ b → (c : Bool) → tells noted_unclaimed (places.Port p) t e ≡ c → Old
       by true at c ends =
-          let parts = both (same_place e.place (places.Port p)) (has_task (claimed_by e.note) t) at in
+          let parts = both (same_place e.place (places.Port p)) (has_task (noted_claimed e.note) t) at in
           let new = claims_new w n lacks es e holds step p t parts.1 in
           let balance = balanced_on p t in
           let fresh_so = fresh p t at in
-          let ended : count unclaimed_by (places.Port p) t (es ++ e ∷ []) ≡ 0 = none_ended at in
+          let ended : count noted_unclaimed (places.Port p) t (es ++ e ∷ []) ≡ 0 = none_ended at in
           here (ap (λ (u : TaskId). u.attempt) new.name ∙ ap (λ a. (state_of w lacks es a).attempt) (sym (ap (λ (u : TaskId). u.actor) new.name))) (bit_true (is_claimed (es ++ e ∷ []) p t) (omega (arith, balance, ended, some))) risen
         where
-          none_ended : tells claimed_by (places.Port p) t e ≡ true → count unclaimed_by (places.Port p) t (es ++ e ∷ []) ≡ 0
+          none_ended : tells noted_claimed (places.Port p) t e ≡ true → count noted_unclaimed (places.Port p) t (es ++ e ∷ []) ≡ 0
           none_ended now =
               let before = known.balanced p t in
               let none = fresh p t now in
-              let all = count-push unclaimed_by (places.Port p) t es e in
-              let apart : bit (tells unclaimed_by (places.Port p) t e) ≡ 0 = ap bit (ended_apart now) in
+              let all = count-push noted_unclaimed (places.Port p) t es e in
+              let apart : bit (tells noted_unclaimed (places.Port p) t e) ≡ 0 = ap bit (ended_apart now) in
               omega (arith, before, none, all, apart)
             where
-              ended_apart : tells claimed_by (places.Port p) t e ≡ true → tells unclaimed_by (places.Port p) t e ≡ false
+              ended_apart : tells noted_claimed (places.Port p) t e ≡ true → tells noted_unclaimed (places.Port p) t e ≡ false
               ended_apart claims_so =
-                  let parts = both (same_place e.place (places.Port p)) (has_task (claimed_by e.note) t) claims_so in
+                  let parts = both (same_place e.place (places.Port p)) (has_task (noted_claimed e.note) t) claims_so in
                   let found = claim_noted e.note t parts.1 in
                   rw found.2 (and_false (same_place e.place (places.Port p)))
-      by false at c ends = of_old (known.old p t (let all = count-push claimed_by (places.Port p) t es e in let none = ap bit at in omega (arith, all, none, some))) at c ends
+      by false at c ends = of_old (known.old p t (let all = count-push noted_claimed (places.Port p) t es e in let none = ap bit at in omega (arith, all, none, some))) at c ends
 
   pub claims_known-kept : ClaimsKnown w lacks (es ++ e ∷ [])
-  claims_known-kept = record { balanced = balanced_on; old = old_on; once = once_on; own = own-push claimed_by es e (λ t has. sym (ap (λ (u : TaskId). u.actor) (claims_new w n lacks es e holds step 0 t has).name)) known.own }
+  claims_known-kept = record { balanced = balanced_on; old = old_on; once = once_on; own = own-push noted_claimed es e (λ t has. sym (ap (λ (u : TaskId). u.actor) (claims_new w n lacks es e holds step 0 t has).name)) known.own }
 
 -- ---- the law
 
@@ -335,10 +336,10 @@ module _ (w : Parts) (workers : ℕ) (lacks : Lacks) (valid : IsValid w) (few : 
       let known = (run_known es run).claims in
       let sums = known.balanced p t in
       let stands = ap bit is in
-      let found = some_telling claimed_by (places.Port p) t es (omega (arith, sums, stands)) in
+      let found = some_telling noted_claimed (places.Port p) t es (omega (arith, sums, stands)) in
       subst (λ a. a < length w.posters + workers) (known.own found.0 found.1 t found.2) (low_actors w workers lacks [] es run found.0 found.1)
 
-  module _ (past : List Entry) (e : Entry) (more : List Entry) (run : IsRunAfter w workers lacks [] (past ++ e ∷ more)) (p : ℕ) (t : TaskId) (is : tells unclaimed_by (places.Port p) t e ≡ true) where
+  module _ (past : List Entry) (e : Entry) (more : List Entry) (run : IsRunAfter w workers lacks [] (past ++ e ∷ more)) (p : ℕ) (t : TaskId) (is : tells noted_unclaimed (places.Port p) t e ≡ true) where
     parts : Parted w workers lacks past e more
     parts = parted w workers lacks past e more run
 
@@ -349,26 +350,26 @@ module _ (w : Parts) (workers : ℕ) (lacks : Lacks) (valid : IsValid w) (few : 
     own_claim = (ends_own w (length w.posters + workers) lacks past e (holds_so past parts.run) step p t is).so
 
     -- what is claimed before and after
-    claimed_then : (bit (is_claimed past p t) ≡ 1) × (count claimed_by (places.Port p) t past ≡ 1) × (count unclaimed_by (places.Port p) t past ≡ 0)
+    claimed_then : (bit (is_claimed past p t) ≡ 1) × (count noted_claimed (places.Port p) t past ≡ 1) × (count noted_unclaimed (places.Port p) t past ≡ 0)
     claimed_then =
         let known = (run_known past parts.run).claims in
         let before = known.balanced p t in
         let once = known.once p t in
         let balance = entry_balance w (length w.posters + workers) lacks past e (holds_so past parts.run) step p t in
         let ends = ap bit is in
-        let began : bit (tells claimed_by (places.Port p) t e) ≤ 0 = not_claimed in
+        let began : bit (tells noted_claimed (places.Port p) t e) ≤ 0 = not_claimed in
         (omega (arith, before, once, balance, ends, began), omega (arith, before, once, balance, ends, began), omega (arith, before, once, balance, ends, began))
       where
-        not_claimed : bit (tells claimed_by (places.Port p) t e) ≤ 0
-        not_claimed = by (tells claimed_by (places.Port p) t e) refl
+        not_claimed : bit (tells noted_claimed (places.Port p) t e) ≤ 0
+        not_claimed = by (tells noted_claimed (places.Port p) t e) refl
           where
-            by : (b : Bool) → tells claimed_by (places.Port p) t e ≡ b → bit b ≤ 0
+            by : (b : Bool) → tells noted_claimed (places.Port p) t e ≡ b → bit b ≤ 0
             by false at = omega arith
             by true at =
-                let claims_so = both (same_place e.place (places.Port p)) (has_task (claimed_by e.note) t) at in
-                let ends_so = both (same_place e.place (places.Port p)) (has_task (unclaimed_by e.note) t) is in
+                let claims_so = both (same_place e.place (places.Port p)) (has_task (noted_claimed e.note) t) at in
+                let ends_so = both (same_place e.place (places.Port p)) (has_task (noted_unclaimed e.note) t) is in
                 let found = claim_noted e.note t claims_so.1 in
-                absurd (no_both ends_so.1 (ap (λ x. has_task (unclaimed_by x) t) found.2))
+                absurd (no_both ends_so.1 (ap (λ x. has_task (noted_unclaimed x) t) found.2))
 
     pub claim_stands : is_claimed_by (port_at past p) t ≡ true
     claim_stands = by (is_claimed past p t) refl
@@ -380,8 +381,8 @@ module _ (w : Parts) (workers : ℕ) (lacks : Lacks) (valid : IsValid w) (few : 
     pub claim_ended : (port_at (past ++ e ∷ []) p).claim ≡ None
     claim_ended = ap (λ (s : PortState). s.claim) (port_at-push past e p) ∙ by (same_place e.place (places.Port p)) refl
       where
-        at_p : (same_place e.place (places.Port p) ≡ true) × (has_task (unclaimed_by e.note) t ≡ true)
-        at_p = both (same_place e.place (places.Port p)) (has_task (unclaimed_by e.note) t) is
+        at_p : (same_place e.place (places.Port p) ≡ true) × (has_task (noted_unclaimed e.note) t ≡ true)
+        at_p = both (same_place e.place (places.Port p)) (has_task (noted_unclaimed e.note) t) is
 
         of_end : IsEnding step.asking.ask e.note t → (ports.after (port_at past p) e.note).claim ≡ None
         of_end (inl found) = rw found.1 refl
@@ -391,9 +392,9 @@ module _ (w : Parts) (workers : ℕ) (lacks : Lacks) (valid : IsValid w) (few : 
         by true at = of_end (ending (port_at past p) step.asking.ask e.note t (noted_at w (length w.posters + workers) lacks past e (holds_so past parts.run) step p at) at_p.1)
         by false at = absurd (no_both at_p.0 at)
 
-    pub claim_once : EndsOnce claimed_by unclaimed_by (places.Port p) t past e more
+    pub claim_once : EndsOnce noted_claimed noted_unclaimed (places.Port p) t past e more
     claim_once =
         let all = (run_known (past ++ e ∷ more) run).claims in
         let few_begun = all.once p t in
         let balance = all.balanced p t in
-        ends_once claimed_by unclaimed_by (places.Port p) t past e more (run_known past parts.run).claims.own is claimed_then.1 claimed_then.2 few_begun (omega (arith, few_begun, balance))
+        ends_once noted_claimed noted_unclaimed (places.Port p) t past e more (run_known past parts.run).claims.own is claimed_then.1 claimed_then.2 few_begun (omega (arith, few_begun, balance))

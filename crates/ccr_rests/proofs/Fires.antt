@@ -11,11 +11,12 @@ use Rattle.ccr_base.specs.Names.{has_task}
 use Rattle.ccr_wiring.specs.declared.parts.Parts.{Parts}
 use Rattle.ccr_model.specs.Firings.{fired}
 use Rattle.ccr_base.proofs.Booleans.{both, or_left}
-use Rattle.ccr_model.proofs.SameNames.{same_task-self}
+use Rattle.ccr_base.proofs.SameNames.{same_task-self}
 use Rattle.ccr_model.proofs.Stable.{fired-append}
 use Rattle.ccr_model.proofs.TaskLists.{among_left, among_right, of_more, of_one}
 use Rattle.ccr_places.specs.declared.notes.Note.{Note}
 use Rattle.ccr_places.specs.declared.notes.Note.TheVariants as notes
+use Rattle.ccr_places.specs.NotedTasks.{noted_fired}
 use Rattle.ccr_actor.specs.Actors.{State, after, after_attempt, after_in, fire}
 use Rattle.ccr_runs.specs.declared.entries.Entry.{Entry}
 use Rattle.ccr_runs.specs.EntryRuns.{Lacks, notes_at, reply_of, reply_to, same_place, state_of, waits}
@@ -24,7 +25,7 @@ use Rattle.ccr_runs.specs.Visible.{event_of, shown, visible}
 use Rattle.ccr_net.proofs.Kept.WholeInvariant.{Holds}
 use Rattle.ccr_net.proofs.Parts.MeterMatches.{bit}
 use Rattle.ccr_net.proofs.Parts.OneMoreEntry.{Step, visible-push}
-use Rattle.ccr_rests.specs.Ends.{fired_by, tells}
+use Rattle.ccr_rests.specs.Ends.{tells}
 use Rattle.ccr_rests.proofs.EntryCounts.{count, count-first}
 use Rattle.ccr_rests.proofs.NoteKinds.{kind_noted}
 use Rattle.ccr_rests.proofs.Rising.{Tries, tries}
@@ -63,7 +64,7 @@ shows_firing a (notes.Left k) t has = absurd (cc)
 pub fired_then : (es : List Entry) (e : Entry) (t : TaskId) → has_task (fired (visible (es ++ e ∷ []))) t ≡ true → (has_task (fired (visible es)) t ≡ true) ⊎ IsFiring e.note t
 fired_then es e t has = of_more (fired (visible es)) (fired (event_of e)) t ((has_task (fired (visible es)) t ≡ true) ⊎ IsFiring e.note t) (ap (λ ts. has_task ts t) (sym (ap fired (visible-push es e) ∙ fired-append (visible es) (event_of e))) ∙ has) (λ old. inl old) (λ new. inr (shows_firing e.actor e.note t new))
 
-pub firing_told : (note : Note) (t : TaskId) → has_task (fired_by note) t ≡ true → IsFiring note t
+pub firing_told : (note : Note) (t : TaskId) → has_task (noted_fired note) t ≡ true → IsFiring note t
 firing_told (notes.Fired u s ms cs) t has = record { spot = s; messages = ms; cuts = cs; noted = ap (λ v. notes.Fired v s ms cs) (sym (of_one u t has)) }
 firing_told (notes.Post m) t has = absurd (cc)
 firing_told (notes.Claim u s r) t has = absurd (cc)
@@ -81,13 +82,13 @@ firing_told (notes.Draw k) t has = absurd (cc)
 firing_told notes.Leave t has = absurd (cc)
 firing_told (notes.Left k) t has = absurd (cc)
 
-pub told_firing : (pl : Place) (t : TaskId) (e : Entry) → tells fired_by pl t e ≡ true → IsFiring e.note t
-told_firing pl t e is = firing_told e.note t (both (same_place e.place pl) (has_task (fired_by e.note) t) is).1
+pub told_firing : (pl : Place) (t : TaskId) (e : Entry) → tells noted_fired pl t e ≡ true → IsFiring e.note t
+told_firing pl t e is = firing_told e.note t (both (same_place e.place pl) (has_task (noted_fired e.note) t) is).1
 
 -- what is told to have fired has fired
-pub fired_told : (pl : Place) (t : TaskId) (es : List Entry) → 1 ≤ count fired_by pl t es → has_task (fired (visible es)) t ≡ true
+pub fired_told : (pl : Place) (t : TaskId) (es : List Entry) → 1 ≤ count noted_fired pl t es → has_task (fired (visible es)) t ≡ true
 fired_told pl t [] some = absurd (omega (arith, some))
-fired_told pl t (e ∷ es) some = ap (λ ts. has_task ts t) (fired-append (event_of e) (visible es)) ∙ by (tells fired_by pl t e) refl (fired_told pl t es)
+fired_told pl t (e ∷ es) some = ap (λ ts. has_task ts t) (fired-append (event_of e) (visible es)) ∙ by (tells noted_fired pl t e) refl (fired_told pl t es)
   where
     self : (u : TaskId) → has_task (u ∷ []) u ≡ true
     self u = or_left _ false (same_task-self u)
@@ -95,9 +96,9 @@ fired_told pl t (e ∷ es) some = ap (λ ts. has_task ts t) (fired-append (event
     of_firing : IsFiring e.note t → has_task (fired (event_of e)) t ≡ true
     of_firing is = ap (λ note. has_task (fired (shown e.actor note)) t) is.noted ∙ self t
 
-    by : (b : Bool) → tells fired_by pl t e ≡ b → (1 ≤ count fired_by pl t es → has_task (fired (visible es)) t ≡ true) → has_task (fired (event_of e) ++ fired (visible es)) t ≡ true
+    by : (b : Bool) → tells noted_fired pl t e ≡ b → (1 ≤ count noted_fired pl t es → has_task (fired (visible es)) t ≡ true) → has_task (fired (event_of e) ++ fired (visible es)) t ≡ true
     by true at rest = among_left (fired (event_of e)) (fired (visible es)) t (of_firing (told_firing pl t e at))
-    by false at rest = among_right (fired (event_of e)) (fired (visible es)) t (rest (let first = count-first fired_by pl t e es in let none = ap bit at in omega (arith, first, none, some)))
+    by false at rest = among_right (fired (event_of e)) (fired (visible es)) t (rest (let first = count-first noted_fired pl t e es in let none = ap bit at in omega (arith, first, none, some)))
 
 -- ---- the firing's actor
 

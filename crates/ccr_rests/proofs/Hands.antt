@@ -1,5 +1,5 @@
 -- What an attempt has in hand: asks that are only settled, and a put as the last at most; and which replies come to an ask.
-use Rattle.std.proofs.Common.{◌≡◌, ◌⊎◌, inl, inr, Bool, true, false, List, [], ◌∷◌, ◌++◌, map, reverse, Option, Some, None, refl}
+use Rattle.std.proofs.Common.{◌≡◌, ◌⊎◌, inl, inr, true, false, List, [], ◌∷◌, ◌++◌, map, reverse, Option, Some, None, refl}
 use Rattle.ccr_base.specs.declared.names.TaskId.{TaskId}
 use Rattle.ccr_base.specs.declared.tasks.Cut.{Cut}
 use Rattle.ccr_base.specs.declared.tasks.Task.{Task}
@@ -10,7 +10,7 @@ use Rattle.ccr_claim.specs.declared.asks.Reply.TheVariants as replies
 use Rattle.ccr_claim.specs.declared.plan.ClaimPlan.{ClaimPlan}
 use Rattle.ccr_claim.specs.declared.plan.Had.{Had}
 use Rattle.ccr_claim.specs.Asks.{due_of, fits}
-use Rattle.ccr_claim.specs.Attempts.{Phase, booking, claiming, attempt_ask, free_ask, consume_ask, unbook_ask, cut_ask, put_asks, release, firing_hand}
+use Rattle.ccr_claim.specs.Attempts.{Phase, booking, claiming, free_ask, consume_ask, unbook_ask, cut_ask, put_asks, release, firing_hand}
 use Rattle.ccr_rests.specs.Trials.{is_of_attempt}
 
 -- each but the last is replied that it is done; the last may be a put
@@ -87,44 +87,3 @@ dropped_alone (replies.Taken t) is = cc is
 dropped_alone (replies.Drawn n) is = cc is
 dropped_alone replies.Spent is = cc is
 dropped_alone (replies.Left n) is = cc is
-
--- whether an attempt that runs may be replied so
-abbrev pub is_heard : Reply → Bool
-is_heard replies.Booked = true
-is_heard (replies.Got messages) = true
-is_heard (replies.Fired task cuts) = true
-is_heard (replies.Full n) = true
-is_heard (replies.Busy by) = true
-is_heard (replies.Short n) = true
-is_heard (replies.Dead by) = true
-is_heard _ = false
-
-pub heard_alone : (plan : ClaimPlan) (task : TaskId) (phase : Phase) (reply : Reply) → fits (due_of (attempt_ask plan task phase).ask) reply ≡ true → is_heard reply ≡ true
-heard_alone plan task phase replies.Booked is = refl
-heard_alone plan task phase (replies.Got m) is = refl
-heard_alone plan task phase (replies.Fired t cuts) is = refl
-heard_alone plan task phase (replies.Full n) is = refl
-heard_alone plan task phase (replies.Busy t) is = refl
-heard_alone plan task phase (replies.Short n) is = refl
-heard_alone plan task phase (replies.Dead by) is = refl
-heard_alone plan task booking replies.Done is = cc is
-heard_alone plan task (claiming [] had) replies.Done is = cc is
-heard_alone plan task (claiming (slot ∷ slots) had) replies.Done is = cc is
-heard_alone plan task booking (replies.Admitted t) is = cc is
-heard_alone plan task (claiming [] had) (replies.Admitted t) is = cc is
-heard_alone plan task (claiming (slot ∷ slots) had) (replies.Admitted t) is = cc is
-heard_alone plan task booking (replies.Dropped t) is = cc is
-heard_alone plan task (claiming [] had) (replies.Dropped t) is = cc is
-heard_alone plan task (claiming (slot ∷ slots) had) (replies.Dropped t) is = cc is
-heard_alone plan task booking (replies.Taken t) is = cc is
-heard_alone plan task (claiming [] had) (replies.Taken t) is = cc is
-heard_alone plan task (claiming (slot ∷ slots) had) (replies.Taken t) is = cc is
-heard_alone plan task booking (replies.Drawn n) is = cc is
-heard_alone plan task (claiming [] had) (replies.Drawn n) is = cc is
-heard_alone plan task (claiming (slot ∷ slots) had) (replies.Drawn n) is = cc is
-heard_alone plan task booking replies.Spent is = cc is
-heard_alone plan task (claiming [] had) replies.Spent is = cc is
-heard_alone plan task (claiming (slot ∷ slots) had) replies.Spent is = cc is
-heard_alone plan task booking (replies.Left n) is = cc is
-heard_alone plan task (claiming [] had) (replies.Left n) is = cc is
-heard_alone plan task (claiming (slot ∷ slots) had) (replies.Left n) is = cc is

@@ -28,12 +28,12 @@ use Rattle.ccr_model.specs.Legal.{IsAllowed, IsLegal}
 use Rattle.ccr_model.specs.Posts.{posted, posts}
 use Rattle.ccr_model.proofs.Allowing.{OneName-legal}
 use Rattle.ccr_base.proofs.Booleans.{or_left, or_right, same_number}
-use Rattle.ccr_model.proofs.Cutting.{AdmitFacts, AdmitFacts-allowed}
+use Rattle.ccr_model.proofs.Cutting.{AdmitFacts, AdmitFacts-allowed, cut_fired}
 use Rattle.ccr_model.proofs.FiredTasks.{IsFired, IsFired-append, fired_has}
 use Rattle.ccr_model.proofs.AllowedFirings.{FiresSo-allowed, WaitingFacts, WaitingFacts-waiting, fired_by_named, firing_named-new}
 use Rattle.ccr_model.proofs.Members.{Among, Contains-among, Among-kept}
 use Rattle.ccr_model.proofs.OneMoreEvent.{cut-push, dropped-push, started-push}
-use Rattle.ccr_model.proofs.SameNames.{same_task-self}
+use Rattle.ccr_base.proofs.SameNames.{same_task-self}
 use Rattle.ccr_model.proofs.TaskLists.{among_left, among_right}
 use Rattle.ccr_model.proofs.WhoWasPut.{ArePlaced, ArePlaced-legal}
 use Rattle.ccr_places.specs.declared.claims.StandingClaim.{StandingClaim}
@@ -48,6 +48,7 @@ use Rattle.ccr_places.specs.Ports.{first_fitting}
 use Rattle.ccr_places.specs.Ports as ports
 use Rattle.ccr_places.specs.Sites.{SiteState}
 use Rattle.ccr_places.specs.Sites as sites
+use Rattle.ccr_places.specs.NotedTasks.{noted_fired}
 use Rattle.ccr_claim.specs.declared.asks.Ask.TheVariants as asks
 use Rattle.ccr_claim.specs.Attempts.{Phase, booking, claiming, attempt_ask}
 use Rattle.ccr_claim.specs.Plans.{commit_place, firing_task, in_pattern, names_of}
@@ -58,9 +59,8 @@ use Rattle.ccr_runs.specs.Places.{arbiter_after, commit_note, first_branch, inte
 use Rattle.ccr_runs.specs.EntryRuns.{IsRunAfter, Lacks, made_by, notes_at, port_at, reply_of, reply_to, state_of, waits}
 use Rattle.ccr_runs.specs.Views.{cut_view, view}
 use Rattle.ccr_runs.specs.Visible.{event_of, shown, visible}
-use Rattle.ccr_net.proofs.Parts.ArbitersMatch.{fired_note, fired_there, is_of, kept_shape, none_at_first}
+use Rattle.ccr_net.proofs.Parts.ArbitersMatch.{fired_there, is_of, kept_shape, none_at_first}
 use Rattle.ccr_net.proofs.Kept.WholeInvariant.{Holds}
-use Rattle.ccr_net.proofs.Parts.EventsChangeDomains.{cut_fired}
 use Rattle.ccr_net.proofs.Known.AsksAreKnown.{IsNamed}
 use Rattle.ccr_net.proofs.Known.CausesAreKnown.{AreFine, all_of, fine_causes, posted_fine}
 use Rattle.ccr_net.proofs.Known.RunsAreKnown.{next_named}
@@ -83,7 +83,7 @@ use Rattle.ccr_net.proofs.Owed.OversMayBeNoted.{first_has}
 -- the teardown that a domain keeps is one that it noted
 torn_there : (place : InterleaveState) (seen : List TaskId) (earlier : List Note) → ((u : TaskId) → place.teardown ≡ Some u → has_task seen u ≡ true) → (u : TaskId) → (interleaves.kept place earlier).teardown ≡ Some u → has_task (seen ++ fired_there earlier) u ≡ true
 torn_there place seen [] known u is = subst (λ ts. has_task ts u ≡ true) (sym (append-nil seen)) (known u is)
-torn_there place seen (note ∷ earlier) known u is = subst (λ ts. has_task ts u ≡ true) (append_assoc seen (fired_note note) (fired_there earlier)) (torn_there (interleaves.after place note) (seen ++ fired_note note) earlier (by note) u is)
+torn_there place seen (note ∷ earlier) known u is = subst (λ ts. has_task ts u ≡ true) (append_assoc seen (noted_fired note) (fired_there earlier)) (torn_there (interleaves.after place note) (seen ++ noted_fired note) earlier (by note) u is)
   where
     still : (more : List TaskId) (v : TaskId) → place.teardown ≡ Some v → has_task (seen ++ more) v ≡ true
     still more v at = among_left seen more v (known v at)
@@ -100,7 +100,7 @@ torn_there place seen (note ∷ earlier) known u is = subst (λ ts. has_task ts 
         of_first None at = rw at refl
         of_first (Some x) at = rw at refl
 
-    by : (m : Note) (v : TaskId) → (interleaves.after place m).teardown ≡ Some v → has_task (seen ++ fired_note m) v ≡ true
+    by : (m : Note) (v : TaskId) → (interleaves.after place m).teardown ≡ Some v → has_task (seen ++ noted_fired m) v ≡ true
     by (notes.Fired t s ms cs) v at = torn (interleaves.is_teardown (interleaves.group_at place s)) t v at
     by (notes.Admit o) v at = still [] v (sym (admitted o) ∙ at)
     by (notes.Over t r how) v at = still [] v at

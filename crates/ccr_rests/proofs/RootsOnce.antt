@@ -22,7 +22,7 @@ use Rattle.ccr_base.proofs.Booleans.{both, eq-self, no_both, or_left, same_numbe
 use Rattle.ccr_model.proofs.AllowedFirings.{BranchFacts, BranchFacts-where, fired_by_named}
 use Rattle.ccr_model.proofs.FiredTasks.{IsFired, IsFired-append, placement_stays}
 use Rattle.ccr_model.proofs.Members.{Among, Among-either, Among-left, Among-right}
-use Rattle.ccr_model.proofs.SameNames.{same_task-is, same_task-self}
+use Rattle.ccr_base.proofs.SameNames.{same_task-is, same_task-self}
 use Rattle.ccr_model.proofs.TaskLists.{among_left, among_right}
 use Rattle.ccr_model.proofs.WhoWasPut.{placement_by}
 use Rattle.ccr_model.proofs.TasksLeft.{has_task-append}
@@ -33,6 +33,7 @@ use Rattle.ccr_places.specs.Arbiters as arbiters
 use Rattle.ccr_places.specs.Interleaves.{InterleaveState, Waiting}
 use Rattle.ccr_places.specs.Interleaves as interleaves
 use Rattle.ccr_places.specs.TaskSets.{task_cmp}
+use Rattle.ccr_places.specs.NotedTasks.{noted_fired, noted_over}
 use Rattle.ccr_claim.specs.declared.asks.Ask.{Ask}
 use Rattle.ccr_claim.specs.declared.asks.Ask.TheVariants as asks
 use Rattle.ccr_runs.specs.declared.entries.Entry.{Entry}
@@ -41,17 +42,17 @@ use Rattle.ccr_runs.specs.EntryRuns.{IsRunAfter, Lacks, made_by, notes_at, port_
 use Rattle.ccr_runs.specs.Views.{domain_of_task}
 use Rattle.ccr_runs.specs.Visible.{event_of, visible}
 use Rattle.ccr_net.proofs.Parts.StepsKeepActors.{unfired}
-use Rattle.ccr_net.proofs.Parts.ArbitersMatch.{fired_note, fired_there, is_of, none_at_first}
+use Rattle.ccr_net.proofs.Parts.ArbitersMatch.{fired_there, is_of, none_at_first}
 use Rattle.ccr_net.proofs.Kept.WholeInvariant.{Holds}
 use Rattle.ccr_net.proofs.Parts.TasksAreBookedOnce.{in-less, in-more}
 use Rattle.ccr_net.proofs.Parts.MeterMatches.{bit}
 use Rattle.ccr_net.proofs.Parts.NotesAnswerAsks.{given_some}
-use Rattle.ccr_net.proofs.Owed.NotedOversAreOver.{is_over_ask, noted_other, noted_over}
+use Rattle.ccr_net.proofs.Owed.NotedOversAreOver.{is_over_ask, noted_other}
 use Rattle.ccr_net.proofs.Played.PlacesByNumber.{same_place-is}
 use Rattle.ccr_net.proofs.Played.PlayedRunsAreRuns.{run_on}
 use Rattle.ccr_net.proofs.Played.HoldersOfTasksAnswer.{run_holds}
 use Rattle.ccr_net.proofs.Parts.OneMoreEntry.{Step, Step-made, along_run, notes_at-push, visible-push}
-use Rattle.ccr_rests.specs.Ends.{EndsOnce, fired_by, over_by, tells, telling_of}
+use Rattle.ccr_rests.specs.Ends.{EndsOnce, tells, telling_of}
 use Rattle.ccr_rests.proofs.BookingsOnce.{less}
 use Rattle.ccr_rests.proofs.EntryCounts.{AreOwn, Parted, count, count-first, count-push, ends_once, none_else, own-push, parted}
 use Rattle.ccr_rests.proofs.Fires.{IsFiring, fired_told, firing_told, told_firing}
@@ -76,10 +77,10 @@ ends_more true false false may = omega arith
 ends_more false o false may = omega arith
 
 -- a root that is noted over might be, and only a firing makes that so
-arbiter_may : (st : ArbiterState) (ask : Ask) (note : Note) (r : TaskId) → arbiter_note st ask ≡ Some note → bit (has_task (over_by note) r) + bit (arbiters.may_over (arbiters.after st note) r) ≤ bit (arbiters.may_over st r) + bit (has_task (fired_by note) r)
+arbiter_may : (st : ArbiterState) (ask : Ask) (note : Note) (r : TaskId) → arbiter_note st ask ≡ Some note → bit (has_task (noted_over note) r) + bit (arbiters.may_over (arbiters.after st note) r) ≤ bit (arbiters.may_over st r) + bit (has_task (noted_fired note) r)
 arbiter_may st (asks.Commit t ms) note r is = by_dead (arbiters.dead_by st) (given_some (arbiters.may_commit st t) (commit_note t ms (arbiters.dead_by st) (notes.Fired t.id t.spot ms [])) note is).1
   where
-    by_dead : (dead : Option By) → note ≡ commit_note t ms dead (notes.Fired t.id t.spot ms []) → bit (has_task (over_by note) r) + bit (arbiters.may_over (arbiters.after st note) r) ≤ bit (arbiters.may_over st r) + bit (has_task (fired_by note) r)
+    by_dead : (dead : Option By) → note ≡ commit_note t ms dead (notes.Fired t.id t.spot ms []) → bit (has_task (noted_over note) r) + bit (arbiters.may_over (arbiters.after st note) r) ≤ bit (arbiters.may_over st r) + bit (has_task (noted_fired note) r)
     by_dead None noted = rw (noted, has_task-append st.fired (t.id ∷ []) r) (let more = fires_more (has_task st.fired r) (same_task r t.id) (not (has_task st.over r)) in omega (arith, more))
     by_dead (Some dead) noted = rw noted (omega arith)
 arbiter_may st (asks.Over t u how) note r is = rw (parts.1, has_task-append st.over (u ∷ []) r) (let fewer = ends_more (has_task st.fired r) (has_task st.over r) (same_task r u) (λ same. ap (arbiters.may_over st) (same_task-is r u same) ∙ parts.0) in omega (arith, fewer))
@@ -147,10 +148,10 @@ or_none : (b : Bool) → bit (b || false) ≡ bit b
 or_none true = refl
 or_none false = refl
 
-domain_may : (place : InterleaveState) (ask : Ask) (note : Note) (r : TaskId) → interleave_note place ask ≡ Some note → bit (has_task (over_by note) r) + may_end (interleaves.after place note) r ≤ may_end place r + bit (has_task (fired_by note) r)
+domain_may : (place : InterleaveState) (ask : Ask) (note : Note) (r : TaskId) → interleave_note place ask ≡ Some note → bit (has_task (noted_over note) r) + may_end (interleaves.after place note) r ≤ may_end place r + bit (has_task (noted_fired note) r)
 domain_may place (asks.Commit t ms) note r is = by_dead (interleaves.dead_by place) (given_some (interleaves.may_commit place t) (commit_note t ms (interleaves.dead_by place) (notes.Fired t.id t.spot ms (interleaves.cut_note place t.spot))) note is).1
   where
-    by_dead : (dead : Option By) → note ≡ commit_note t ms dead (notes.Fired t.id t.spot ms (interleaves.cut_note place t.spot)) → bit (has_task (over_by note) r) + may_end (interleaves.after place note) r ≤ may_end place r + bit (has_task (fired_by note) r)
+    by_dead : (dead : Option By) → note ≡ commit_note t ms dead (notes.Fired t.id t.spot ms (interleaves.cut_note place t.spot)) → bit (has_task (noted_over note) r) + may_end (interleaves.after place note) r ≤ may_end place r + bit (has_task (noted_fired note) r)
     by_dead None noted = rw noted (let more = spares (interleaves.is_teardown (interleaves.group_at place t.spot)) place.waiting (record { task = t.id; spot = t.spot }) r in let one = or_none (same_task r t.id) in omega (arith, more, one))
     by_dead (Some dead) noted = rw noted (omega arith)
 domain_may place asks.Admit note r is = rw noted (let more = admission place (interleaves.admit_note place) r in omega (arith, more))
@@ -186,11 +187,11 @@ abbrev may_of : Parts → ℕ → Option ArbiterPart → List Note → TaskId �
 may_of w i None earlier r = 0
 may_of w i (Some part) earlier r = may_in w i part.kind part earlier r
 
-part_may : (w : Parts) (i : ℕ) (o : Option ArbiterPart) (earlier : List Note) (ask : Ask) (note : Note) (r : TaskId) → note_at_arbiter w i o earlier ask ≡ Some note → bit (has_task (over_by note) r) + may_of w i o (earlier ++ note ∷ []) r ≤ may_of w i o earlier r + bit (has_task (fired_by note) r)
+part_may : (w : Parts) (i : ℕ) (o : Option ArbiterPart) (earlier : List Note) (ask : Ask) (note : Note) (r : TaskId) → note_at_arbiter w i o earlier ask ≡ Some note → bit (has_task (noted_over note) r) + may_of w i o (earlier ++ note ∷ []) r ≤ may_of w i o earlier r + bit (has_task (noted_fired note) r)
 part_may w i None earlier ask note r is = absurd (cc)
 part_may w i (Some part) earlier ask note r is = by part.kind is
   where
-    by : (kind : Kind) → note_by_kind w i kind part earlier ask ≡ Some note → bit (has_task (over_by note) r) + may_in w i kind part (earlier ++ note ∷ []) r ≤ may_in w i kind part earlier r + bit (has_task (fired_by note) r)
+    by : (kind : Kind) → note_by_kind w i kind part earlier ask ≡ Some note → bit (has_task (noted_over note) r) + may_in w i kind part (earlier ++ note ∷ []) r ≤ may_in w i kind part earlier r + bit (has_task (noted_fired note) r)
     by kinds.Receive now = rw (arbiter-push (first_branch w i) part earlier note) (arbiter_may (arbiter_after (first_branch w i) part earlier) ask note r now)
     by kinds.Choice now = rw (arbiter-push (first_branch w i) part earlier note) (arbiter_may (arbiter_after (first_branch w i) part earlier) ask note r now)
     by kinds.Interleave now = rw (domain-push w i earlier note) (domain_may (interleave_after w i earlier) ask note r now)
@@ -208,47 +209,47 @@ may_first w i (Some part) r = by part.kind
 abbrev may_at : Parts → List Entry → ℕ → TaskId → ℕ
 may_at w es i r = may_of w i (slice_get w.arbiters i) (notes_at es (places.Arbiter i)) r
 
-entry_may : (w : Parts) (lacks : Lacks) (es : List Entry) (e : Entry) → Step w lacks es e → (i : ℕ) (r : TaskId) → bit (tells over_by (places.Arbiter i) r e) + may_at w (es ++ e ∷ []) i r ≤ may_at w es i r + bit (tells fired_by (places.Arbiter i) r e)
-entry_may w lacks es e step i r = subst (λ ns. bit (tells over_by (places.Arbiter i) r e) + may_of w i (slice_get w.arbiters i) ns r ≤ may_at w es i r + bit (tells fired_by (places.Arbiter i) r e)) (sym (notes_at-push es e (places.Arbiter i))) (by (same_place e.place (places.Arbiter i)) refl)
+entry_may : (w : Parts) (lacks : Lacks) (es : List Entry) (e : Entry) → Step w lacks es e → (i : ℕ) (r : TaskId) → bit (tells noted_over (places.Arbiter i) r e) + may_at w (es ++ e ∷ []) i r ≤ may_at w es i r + bit (tells noted_fired (places.Arbiter i) r e)
+entry_may w lacks es e step i r = subst (λ ns. bit (tells noted_over (places.Arbiter i) r e) + may_of w i (slice_get w.arbiters i) ns r ≤ may_at w es i r + bit (tells noted_fired (places.Arbiter i) r e)) (sym (notes_at-push es e (places.Arbiter i))) (by (same_place e.place (places.Arbiter i)) refl)
   where
-    by : (b : Bool) → same_place e.place (places.Arbiter i) ≡ b → bit (b && has_task (over_by e.note) r) + may_of w i (slice_get w.arbiters i) (notes_at es (places.Arbiter i) ++ (if b then e.note ∷ [] else [])) r ≤ may_at w es i r + bit (b && has_task (fired_by e.note) r)
+    by : (b : Bool) → same_place e.place (places.Arbiter i) ≡ b → bit (b && has_task (noted_over e.note) r) + may_of w i (slice_get w.arbiters i) (notes_at es (places.Arbiter i) ++ (if b then e.note ∷ [] else [])) r ≤ may_at w es i r + bit (b && has_task (noted_fired e.note) r)
     by true at = part_may w i (slice_get w.arbiters i) (notes_at es (places.Arbiter i)) step.asking.ask e.note r (subst (λ pl. note_of w pl (notes_at es pl) step.asking.ask ≡ Some e.note) (sym step.there ∙ same_place-is e.place (places.Arbiter i) at) step.gives)
     by false at = subst (λ ns. 0 + may_of w i (slice_get w.arbiters i) ns r ≤ may_at w es i r + 0) (sym (append-nil (notes_at es (places.Arbiter i)))) (omega arith)
 
 -- ---- along a run
 
 pub record RootsKnown (w : Parts) (es : List Entry) : Type 0 where
-  pub balanced : (i : ℕ) (r : TaskId) → count over_by (places.Arbiter i) r es + may_at w es i r ≤ count fired_by (places.Arbiter i) r es
-  pub once : (i : ℕ) (r : TaskId) → count fired_by (places.Arbiter i) r es ≤ 1
-  pub own : AreOwn fired_by es
+  pub balanced : (i : ℕ) (r : TaskId) → count noted_over (places.Arbiter i) r es + may_at w es i r ≤ count noted_fired (places.Arbiter i) r es
+  pub once : (i : ℕ) (r : TaskId) → count noted_fired (places.Arbiter i) r es ≤ 1
+  pub own : AreOwn noted_fired es
 
 module _ (w : Parts) (n : ℕ) (lacks : Lacks) (es : List Entry) (e : Entry) (holds : Holds w n lacks es) (step : Step w lacks es e) (known : RootsKnown w es) where
   own_firing : (t : TaskId) → IsFiring e.note t → e.actor ≡ t.actor
   own_firing t is = sym (ap (λ (u : TaskId). u.actor) (fires_itself w n lacks es e holds step t is.spot is.messages is.cuts is.noted))
 
   -- who fires hasn't fired before
-  fresh : (i : ℕ) (r : TaskId) → tells fired_by (places.Arbiter i) r e ≡ true → count fired_by (places.Arbiter i) r es ≡ 0
-  fresh i r is = by (count fired_by (places.Arbiter i) r es) refl
+  fresh : (i : ℕ) (r : TaskId) → tells noted_fired (places.Arbiter i) r e ≡ true → count noted_fired (places.Arbiter i) r es ≡ 0
+  fresh i r is = by (count noted_fired (places.Arbiter i) r es) refl
     where
       firing : IsFiring e.note r
       firing = told_firing (places.Arbiter i) r e is
 
-      by : (k : ℕ) → count fired_by (places.Arbiter i) r es ≡ k → count fired_by (places.Arbiter i) r es ≡ 0
+      by : (k : ℕ) → count noted_fired (places.Arbiter i) r es ≡ k → count noted_fired (places.Arbiter i) r es ≡ 0
       by zero at = at
       by (suc k) at = absurd (no_both (subst (λ t. has_task (fired (visible es)) t ≡ true) (fires_itself w n lacks es e holds step r firing.spot firing.messages firing.cuts firing.noted) (fired_told (places.Arbiter i) r es (omega (arith, at)))) (unfired w (visible es) (port_at es) e.actor (state_of w lacks es e.actor) (holds.actors e.actor).claims))
 
-  once_on : (i : ℕ) (r : TaskId) → count fired_by (places.Arbiter i) r (es ++ e ∷ []) ≤ 1
-  once_on i r = by (tells fired_by (places.Arbiter i) r e) refl
+  once_on : (i : ℕ) (r : TaskId) → count noted_fired (places.Arbiter i) r (es ++ e ∷ []) ≤ 1
+  once_on i r = by (tells noted_fired (places.Arbiter i) r e) refl
     where
-      by : (b : Bool) → tells fired_by (places.Arbiter i) r e ≡ b → count fired_by (places.Arbiter i) r (es ++ e ∷ []) ≤ 1
-      by true at = (let none = fresh i r at in let all = count-push fired_by (places.Arbiter i) r es e in let one = ap bit at in omega (arith, none, all, one))
-      by false at = (let few = known.once i r in let all = count-push fired_by (places.Arbiter i) r es e in let one = ap bit at in omega (arith, few, all, one))
+      by : (b : Bool) → tells noted_fired (places.Arbiter i) r e ≡ b → count noted_fired (places.Arbiter i) r (es ++ e ∷ []) ≤ 1
+      by true at = (let none = fresh i r at in let all = count-push noted_fired (places.Arbiter i) r es e in let one = ap bit at in omega (arith, none, all, one))
+      by false at = (let few = known.once i r in let all = count-push noted_fired (places.Arbiter i) r es e in let one = ap bit at in omega (arith, few, all, one))
 
   pub roots_known-kept : RootsKnown w (es ++ e ∷ [])
   roots_known-kept = record {
-    balanced = λ i r. (let before = known.balanced i r in let change = entry_may w lacks es e step i r in let overs = count-push over_by (places.Arbiter i) r es e in let fires = count-push fired_by (places.Arbiter i) r es e in omega (arith, before, change, overs, fires));
+    balanced = λ i r. (let before = known.balanced i r in let change = entry_may w lacks es e step i r in let overs = count-push noted_over (places.Arbiter i) r es e in let fires = count-push noted_fired (places.Arbiter i) r es e in omega (arith, before, change, overs, fires));
     once = once_on;
-    own = own-push fired_by es e (λ t has. own_firing t (firing_told e.note t has)) known.own;
+    own = own-push noted_fired es e (λ t has. own_firing t (firing_told e.note t has)) known.own;
   }
 
 -- ---- at which domain
@@ -270,7 +271,7 @@ over_asked asks.Draw is = absurd (cc)
 over_asked asks.Leave is = absurd (cc)
 over_asked asks.Left is = absurd (cc)
 
-over_told : (note : Note) (r : TaskId) → has_task (over_by note) r ≡ true → noted_over note ≡ [] → ⊥
+over_told : (note : Note) (r : TaskId) → has_task (noted_over note) r ≡ true → noted_over note ≡ [] → ⊥
 over_told (notes.Over t u how) r has none = absurd (cc)
 over_told (notes.Fired u s ms cs) r has none = absurd (cc)
 over_told (notes.Post m) r has none = absurd (cc)
@@ -289,7 +290,7 @@ over_told notes.Leave r has none = absurd (cc)
 over_told (notes.Left k) r has none = absurd (cc)
 
 -- only an arbiter notes a root over
-at_arbiter : (w : Parts) (place : Place) (earlier : List Note) (ask : Ask) (note : Note) (r : TaskId) → note_of w place earlier ask ≡ Some note → has_task (over_by note) r ≡ true → (i : ℕ) × (place ≡ places.Arbiter i)
+at_arbiter : (w : Parts) (place : Place) (earlier : List Note) (ask : Ask) (note : Note) (r : TaskId) → note_of w place earlier ask ≡ Some note → has_task (noted_over note) r ≡ true → (i : ℕ) × (place ≡ places.Arbiter i)
 at_arbiter w place earlier ask note r is has = by (is_over_ask ask) refl
   where
     of_place : (pl : Place) (t u : TaskId) (how : How) → note_of w pl earlier (asks.Over t u how) ≡ Some note → (i : ℕ) × (pl ≡ places.Arbiter i)
@@ -303,20 +304,20 @@ at_arbiter w place earlier ask note r is has = by (is_over_ask ask) refl
     by true at = (let found = over_asked ask at in of_place place found.0 found.1 found.2 (subst (λ x. note_of w place earlier x ≡ Some note) found.3 is))
     by false at = absurd (over_told note r has (noted_other w place earlier ask note at is))
 
-fired_at_it : (i : ℕ) (r : TaskId) (es : List Entry) → 1 ≤ count fired_by (places.Arbiter i) r es → has_task (fired_there (notes_at es (places.Arbiter i))) r ≡ true
+fired_at_it : (i : ℕ) (r : TaskId) (es : List Entry) → 1 ≤ count noted_fired (places.Arbiter i) r es → has_task (fired_there (notes_at es (places.Arbiter i))) r ≡ true
 fired_at_it i r [] some = absurd (omega (arith, some))
-fired_at_it i r (e ∷ es) some = by (same_place e.place (places.Arbiter i)) refl (count-first fired_by (places.Arbiter i) r e es) (fired_at_it i r es)
+fired_at_it i r (e ∷ es) some = by (same_place e.place (places.Arbiter i)) refl (count-first noted_fired (places.Arbiter i) r e es) (fired_at_it i r es)
   where
-    of_firing : IsFiring e.note r → has_task (fired_note e.note) r ≡ true
-    of_firing is = ap (λ x. has_task (fired_note x) r) is.noted ∙ or_left (same_task r r) false (same_task-self r)
+    of_firing : IsFiring e.note r → has_task (noted_fired e.note) r ≡ true
+    of_firing is = ap (λ x. has_task (noted_fired x) r) is.noted ∙ or_left (same_task r r) false (same_task-self r)
 
-    of_told : (c : Bool) → has_task (fired_by e.note) r ≡ c → count fired_by (places.Arbiter i) r (e ∷ es) ≡ bit (true && c) + count fired_by (places.Arbiter i) r es → (1 ≤ count fired_by (places.Arbiter i) r es → has_task (fired_there (notes_at es (places.Arbiter i))) r ≡ true) → has_task (fired_note e.note ++ fired_there (notes_at es (places.Arbiter i))) r ≡ true
-    of_told true told sums rest = among_left (fired_note e.note) (fired_there (notes_at es (places.Arbiter i))) r (of_firing (firing_told e.note r told))
-    of_told false told sums rest = among_right (fired_note e.note) (fired_there (notes_at es (places.Arbiter i))) r (rest (omega (arith, sums, some)))
+    of_told : (c : Bool) → has_task (noted_fired e.note) r ≡ c → count noted_fired (places.Arbiter i) r (e ∷ es) ≡ bit (true && c) + count noted_fired (places.Arbiter i) r es → (1 ≤ count noted_fired (places.Arbiter i) r es → has_task (fired_there (notes_at es (places.Arbiter i))) r ≡ true) → has_task (noted_fired e.note ++ fired_there (notes_at es (places.Arbiter i))) r ≡ true
+    of_told true told sums rest = among_left (noted_fired e.note) (fired_there (notes_at es (places.Arbiter i))) r (of_firing (firing_told e.note r told))
+    of_told false told sums rest = among_right (noted_fired e.note) (fired_there (notes_at es (places.Arbiter i))) r (rest (omega (arith, sums, some)))
 
-    by : (b : Bool) → same_place e.place (places.Arbiter i) ≡ b → count fired_by (places.Arbiter i) r (e ∷ es) ≡ bit (b && has_task (fired_by e.note) r) + count fired_by (places.Arbiter i) r es → (1 ≤ count fired_by (places.Arbiter i) r es → has_task (fired_there (notes_at es (places.Arbiter i))) r ≡ true) → has_task (fired_there ((if b then e.note ∷ [] else []) ++ notes_at es (places.Arbiter i))) r ≡ true
+    by : (b : Bool) → same_place e.place (places.Arbiter i) ≡ b → count noted_fired (places.Arbiter i) r (e ∷ es) ≡ bit (b && has_task (noted_fired e.note) r) + count noted_fired (places.Arbiter i) r es → (1 ≤ count noted_fired (places.Arbiter i) r es → has_task (fired_there (notes_at es (places.Arbiter i))) r ≡ true) → has_task (fired_there ((if b then e.note ∷ [] else []) ++ notes_at es (places.Arbiter i))) r ≡ true
     by false at first rest = rest (omega (arith, first, some))
-    by true at first rest = of_told (has_task (fired_by e.note) r) refl first rest
+    by true at first rest = of_told (has_task (noted_fired e.note) r) refl first rest
 
 -- ---- the law
 
@@ -344,15 +345,15 @@ module _ (w : Parts) (workers : ℕ) (lacks : Lacks) (valid : IsValid w) (few : 
     step : Step w lacks past e
     step = Step-made w lacks past e parts.made
 
-    module _ (i : ℕ) (r : TaskId) (is : tells over_by (places.Arbiter i) r e ≡ true) where
-      not_fired : bit (tells fired_by (places.Arbiter i) r e) ≤ 0
-      not_fired = by (tells fired_by (places.Arbiter i) r e) refl
+    module _ (i : ℕ) (r : TaskId) (is : tells noted_over (places.Arbiter i) r e ≡ true) where
+      not_fired : bit (tells noted_fired (places.Arbiter i) r e) ≤ 0
+      not_fired = by (tells noted_fired (places.Arbiter i) r e) refl
         where
-          by : (b : Bool) → tells fired_by (places.Arbiter i) r e ≡ b → bit b ≤ 0
+          by : (b : Bool) → tells noted_fired (places.Arbiter i) r e ≡ b → bit b ≤ 0
           by false at = omega arith
-          by true at = absurd (no_both (both (same_place e.place (places.Arbiter i)) (has_task (over_by e.note) r) is).1 (ap (λ x. has_task (over_by x) r) (told_firing (places.Arbiter i) r e at).noted))
+          by true at = absurd (no_both (both (same_place e.place (places.Arbiter i)) (has_task (noted_over e.note) r) is).1 (ap (λ x. has_task (noted_over x) r) (told_firing (places.Arbiter i) r e at).noted))
 
-      over_then : (count fired_by (places.Arbiter i) r past ≡ 1) × (count over_by (places.Arbiter i) r past ≡ 0)
+      over_then : (count noted_fired (places.Arbiter i) r past ≡ 1) × (count noted_over (places.Arbiter i) r past ≡ 0)
       over_then =
           let known = (run_known past parts.run).roots in
           let before = known.balanced i r in
@@ -362,12 +363,12 @@ module _ (w : Parts) (workers : ℕ) (lacks : Lacks) (valid : IsValid w) (few : 
           let none = not_fired in
           (omega (arith, before, once, change, ends, none), omega (arith, before, once, change, ends, none))
 
-      pub root_once : EndsOnce fired_by over_by (places.Arbiter i) r past e more
+      pub root_once : EndsOnce noted_fired noted_over (places.Arbiter i) r past e more
       root_once =
           let all = (run_known (past ++ e ∷ more) run).roots in
           let few_fired = all.once i r in
           let sums = all.balanced i r in
-          ends_once fired_by over_by (places.Arbiter i) r past e more (run_known past parts.run).roots.own is over_then.0 over_then.1 few_fired (omega (arith, few_fired, sums))
+          ends_once noted_fired noted_over (places.Arbiter i) r past e more (run_known past parts.run).roots.own is over_then.0 over_then.1 few_fired (omega (arith, few_fired, sums))
 
       -- the root fired at a branch of this arbiter
       named : (f : Firing) × (firing_named (visible past) r ≡ Some f) × (is_branch_where w (is_of i) f.spot ≡ true)
@@ -385,7 +386,7 @@ module _ (w : Parts) (workers : ℕ) (lacks : Lacks) (valid : IsValid w) (few : 
       its_firing = (named.0, named.1)
 
     -- only the root's domain notes it over, and it has fired
-    root_placed : (r : TaskId) → has_task (over_by e.note) r ≡ true → (e.place ≡ places.Arbiter (domain_of_task w (visible past) r)) × IsFired (visible past) r
+    root_placed : (r : TaskId) → has_task (noted_over e.note) r ≡ true → (e.place ≡ places.Arbiter (domain_of_task w (visible past) r)) × IsFired (visible past) r
     root_placed r has = (at ∙ ap places.Arbiter (sym (its_arbiter found.0 r told)), its_firing found.0 r told)
       where
         found : (i : ℕ) × (step.asking.place ≡ places.Arbiter i)
@@ -394,10 +395,10 @@ module _ (w : Parts) (workers : ℕ) (lacks : Lacks) (valid : IsValid w) (few : 
         at : e.place ≡ places.Arbiter found.0
         at = step.there ∙ found.1
 
-        told : tells over_by (places.Arbiter found.0) r e ≡ true
+        told : tells noted_over (places.Arbiter found.0) r e ≡ true
         told = (λ k. same_place (at k) (places.Arbiter found.0) && has k) ∙ ap (λ b. b && true) (eq-self found.0)
 
-    pub root_domain : (r : TaskId) → has_task (over_by e.note) r ≡ true → e.place ≡ places.Arbiter (domain_of_task w (visible past) r)
+    pub root_domain : (r : TaskId) → has_task (noted_over e.note) r ≡ true → e.place ≡ places.Arbiter (domain_of_task w (visible past) r)
     root_domain r has = (root_placed r has).0
 
   -- ---- nowhere else
@@ -405,7 +406,7 @@ module _ (w : Parts) (workers : ℕ) (lacks : Lacks) (valid : IsValid w) (few : 
   -- each entry that notes a root over is at the domain of the root, as the whole run has it
   record OversPlaced (es : List Entry) : Type 0 where
     run : IsRunAfter w workers lacks [] es
-    placed : (x : Entry) → Among x es → (r : TaskId) → has_task (over_by x.note) r ≡ true → (x.place ≡ places.Arbiter (domain_of_task w (visible es) r)) × IsFired (visible es) r
+    placed : (x : Entry) → Among x es → (r : TaskId) → has_task (noted_over x.note) r ≡ true → (x.place ≡ places.Arbiter (domain_of_task w (visible es) r)) × IsFired (visible es) r
 
   overs_placed : (es : List Entry) → IsRunAfter w workers lacks [] es → OversPlaced es
   overs_placed es run = along_run w workers lacks OversPlaced kept (record { run = tt; placed = λ x is r has. absurd is }) es run
@@ -419,23 +420,23 @@ module _ (w : Parts) (workers : ℕ) (lacks : Lacks) (valid : IsValid w) (few : 
           later : (x : Entry) (r : TaskId) → (x.place ≡ places.Arbiter (domain_of_task w (visible past) r)) × IsFired (visible past) r → (x.place ≡ places.Arbiter (domain_of_task w (visible (past ++ e ∷ [])) r)) × IsFired (visible (past ++ e ∷ [])) r
           later x r is = subst (λ g. (x.place ≡ places.Arbiter (domain_of_task w g r)) × IsFired g r) (sym (visible-push past e)) (is.0 ∙ ap (λ o. places.Arbiter (option_map_or (λ (s : Placement). s.domain) o 0)) (sym (placement_stays w (visible past) (event_of e) r is.1)), IsFired-append (visible past) (event_of e) r is.1)
 
-          of : (x : Entry) (r : TaskId) → has_task (over_by x.note) r ≡ true → Among x past ⊎ Among x (e ∷ []) → (x.place ≡ places.Arbiter (domain_of_task w (visible (past ++ e ∷ [])) r)) × IsFired (visible (past ++ e ∷ [])) r
+          of : (x : Entry) (r : TaskId) → has_task (noted_over x.note) r ≡ true → Among x past ⊎ Among x (e ∷ []) → (x.place ≡ places.Arbiter (domain_of_task w (visible (past ++ e ∷ [])) r)) × IsFired (visible (past ++ e ∷ [])) r
           of x r has (inl old) = later x r (known.placed x old r has)
-          of x r has (inr (inl same)) = subst (λ (y : Entry). (y.place ≡ places.Arbiter (domain_of_task w (visible (past ++ e ∷ [])) r)) × IsFired (visible (past ++ e ∷ [])) r) (sym same) (later e r (root_placed past e [] on r (subst (λ (y : Entry). has_task (over_by y.note) r ≡ true) same has)))
+          of x r has (inr (inl same)) = subst (λ (y : Entry). (y.place ≡ places.Arbiter (domain_of_task w (visible (past ++ e ∷ [])) r)) × IsFired (visible (past ++ e ∷ [])) r) (sym same) (later e r (root_placed past e [] on r (subst (λ (y : Entry). has_task (noted_over y.note) r ≡ true) same has)))
           of x r has (inr (inr none)) = absurd none
 
-  module _ (past : List Entry) (e : Entry) (more : List Entry) (run : IsRunAfter w workers lacks [] (past ++ e ∷ more)) (r : TaskId) (has : has_task (over_by e.note) r ≡ true) where
+  module _ (past : List Entry) (e : Entry) (more : List Entry) (run : IsRunAfter w workers lacks [] (past ++ e ∷ more)) (r : TaskId) (has : has_task (noted_over e.note) r ≡ true) where
     abbrev its_domain : ℕ
     its_domain = domain_of_task w (visible (past ++ e ∷ more)) r
 
-    placed_there : (x : Entry) → Among x (past ++ e ∷ more) → has_task (over_by x.note) r ≡ true → same_place x.place (places.Arbiter its_domain) ≡ true
+    placed_there : (x : Entry) → Among x (past ++ e ∷ more) → has_task (noted_over x.note) r ≡ true → same_place x.place (places.Arbiter its_domain) ≡ true
     placed_there x is also = ap (λ pl. same_place pl (places.Arbiter its_domain)) ((overs_placed (past ++ e ∷ more) run).placed x is r also).0 ∙ eq-self its_domain
 
-    ends_there : EndsOnce fired_by over_by (places.Arbiter its_domain) r past e more
+    ends_there : EndsOnce noted_fired noted_over (places.Arbiter its_domain) r past e more
     ends_there = root_once past e more run its_domain r (λ i. placed_there e (Among-right e past (e ∷ more) (inl refl)) has i && has i)
 
-    pub root_before : telling_of over_by r past ≡ []
-    root_before = none_else over_by (places.Arbiter its_domain) r past ends_there.not_ended_before (λ x is also. placed_there x (Among-left x past (e ∷ more) is) also)
+    pub root_before : telling_of noted_over r past ≡ []
+    root_before = none_else noted_over (places.Arbiter its_domain) r past ends_there.not_ended_before (λ x is also. placed_there x (Among-left x past (e ∷ more) is) also)
 
-    pub root_later : telling_of over_by r more ≡ []
-    root_later = none_else over_by (places.Arbiter its_domain) r more ends_there.not_ended_later (λ x is also. placed_there x (Among-right x past (e ∷ more) (inr is)) also)
+    pub root_later : telling_of noted_over r more ≡ []
+    root_later = none_else noted_over (places.Arbiter its_domain) r more ends_there.not_ended_later (λ x is also. placed_there x (Among-right x past (e ∷ more) (inr is)) also)

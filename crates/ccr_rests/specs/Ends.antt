@@ -1,60 +1,16 @@
 -- Which entries of a run begin and end the claims, the bookings and the roots of tasks, and that each is ended once.
-use Rattle.std.specs.Prelude.{◌≡◌, ◌⊎◌, ℕ, Bool, true, false, ◌==◌, ◌&&◌, List, [], ◌∷◌, filter, Some, None}
+use Rattle.std.specs.Prelude.{◌≡◌, ◌⊎◌, ℕ, Bool, true, false, ◌==◌, ◌&&◌, List, [], ◌∷◌, filter}
 use Rattle.std.specs.List.{list_any}
 use Rattle.ccr_base.specs.declared.names.Place.{Place}
 use Rattle.ccr_base.specs.declared.names.TaskId.{TaskId}
 use Rattle.ccr_base.specs.Names.{has_task}
 use Rattle.ccr_model.specs.Firings.{fired}
-use Rattle.ccr_places.specs.declared.notes.ClaimNote.TheVariants.{Got}
 use Rattle.ccr_places.specs.declared.notes.Note.{Note}
 use Rattle.ccr_places.specs.declared.notes.Note.TheVariants as notes
+use Rattle.ccr_places.specs.NotedTasks.{noted_cut, noted_admitted}
 use Rattle.ccr_runs.specs.declared.entries.Entry.{Entry}
 use Rattle.ccr_runs.specs.EntryRuns.{same_place}
 use Rattle.ccr_runs.specs.Visible.{visible}
-
--- ---- of which task a note tells what
-
--- whose claim got its messages
-abbrev pub claimed_by : Note → List TaskId
-claimed_by (notes.Claim task slot (Got count)) = task ∷ []
-claimed_by _ = []
-
--- whose claim was consumed or freed
-abbrev pub unclaimed_by : Note → List TaskId
-unclaimed_by (notes.Consume task) = task ∷ []
-unclaimed_by (notes.Free task) = task ∷ []
-unclaimed_by _ = []
-
--- who was booked
-abbrev pub booked_by : Note → List TaskId
-booked_by (notes.Book task resumes None) = task ∷ []
-booked_by _ = []
-
--- whose booking was ended: it was put, or its booking was given back
-abbrev pub unbooked_by : Note → List TaskId
-unbooked_by (notes.Put task dropped) = task ∷ []
-unbooked_by (notes.Unbook task) = task ∷ []
-unbooked_by _ = []
-
--- who fired
-abbrev pub fired_by : Note → List TaskId
-fired_by (notes.Fired task spot messages cuts) = task ∷ []
-fired_by _ = []
-
--- whom a firing cut
-abbrev pub cut_by : Note → List TaskId
-cut_by (notes.Fired task spot messages cuts) = cuts
-cut_by _ = []
-
--- who was admitted
-abbrev pub admitted_by : Note → List TaskId
-admitted_by (notes.Admit (Some task)) = task ∷ []
-admitted_by _ = []
-
--- whose root was noted over
-abbrev pub over_by : Note → List TaskId
-over_by (notes.Over task root how) = root ∷ []
-over_by _ = []
 
 -- ---- the entries that tell it
 
@@ -94,11 +50,11 @@ EndsClaim past actor _ = ⊥
 
 -- a task that has fired is put by the actor of its attempt, or by the actor that admitted it
 abbrev pub MayPut : List Entry → ℕ → TaskId → Type 0
-MayPut past actor task = (has_task (fired (visible past)) task ≡ true) × ((actor ≡ task.actor) ⊎ (has_told admitted_by actor task past ≡ true))
+MayPut past actor task = (has_task (fired (visible past)) task ≡ true) × ((actor ≡ task.actor) ⊎ (has_told noted_admitted actor task past ≡ true))
 
 -- its booking is given back by the actor of its attempt, where that hasn't fired, or by the actor whose firing cut it
 abbrev pub MayUnbook : List Entry → ℕ → TaskId → Type 0
-MayUnbook past actor task = ((actor ≡ task.actor) × (has_task (fired (visible past)) task ≡ false)) ⊎ (has_told cut_by actor task past ≡ true)
+MayUnbook past actor task = ((actor ≡ task.actor) × (has_task (fired (visible past)) task ≡ false)) ⊎ (has_told noted_cut actor task past ≡ true)
 
 -- a booking is ended by one of these
 abbrev pub EndsBooking : List Entry → ℕ → Note → Type 0

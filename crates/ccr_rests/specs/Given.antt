@@ -22,11 +22,11 @@ use Rattle.ccr_runs.specs.declared.entries.Entry.{Entry}
 use Rattle.ccr_net.specs.Acted.{act_after}
 use Rattle.ccr_net.specs.Lawful.{IsPlayedRun}
 use Rattle.ccr_runs.specs.Played.{entries_of, given_in}
-use Rattle.ccr_runs.specs.EntryRuns.{Lacks, IsRunAfter, replies_of}
+use Rattle.ccr_runs.specs.EntryRuns.{Lacks, IsRunAfter, replies_of, queue_at, domain_at}
 use Rattle.ccr_runs.specs.Visible.{visible}
 use Rattle.ccr_rests.specs.Going.{GoesOn, AreAtRest, ComesToRest, first}
 use Rattle.ccr_rests.specs.Ends.{EndsOnce}
-use Rattle.ccr_rests.specs.Keeping.{WaitsFor, interleave_in, queue_in}
+use Rattle.ccr_rests.specs.Keeping.{WaitsFor}
 use Rattle.ccr_rests.specs.Objects.{HasPlace, object_at, whole_interleave, whole_queue, whole_site}
 use Rattle.ccr_rests.specs.Owing.{IsToEnd}
 
@@ -46,11 +46,11 @@ shown run = visible run.entries
 
 -- what a queue is after the run
 abbrev pub queue_after : Run → ℕ → QueueState
-queue_after run queue = queue_in run.wiring run.entries queue
+queue_after run queue = queue_at run.wiring run.entries queue
 
 -- what an Interleave is after the run
 abbrev pub interleave_after : Run → ℕ → InterleaveState
-interleave_after run domain = interleave_in run.wiring run.entries domain
+interleave_after run domain = domain_at run.wiring run.entries domain
 
 -- the task waits in an Interleave to be admitted, and its branch is on this queue
 abbrev pub Waits : Run → ℕ → TaskId → Type 0

@@ -14,6 +14,9 @@ use Rattle.ccr_places.specs.declared.notes.ClaimNote.TheVariants.{Got, Busy, Sho
 use Rattle.ccr_places.specs.declared.notes.Note.{Note}
 use Rattle.ccr_places.specs.declared.notes.Note.TheVariants as notes
 use Rattle.ccr_places.specs.Ports.{PortState, first_fitting}
+use Rattle.ccr_places.specs.Interleaves.{InterleaveState}
+use Rattle.ccr_places.specs.Queues.{QueueState}
+use Rattle.ccr_places.specs.Sites.{SiteState}
 use Rattle.ccr_claim.specs.declared.asks.Reply.{Reply}
 use Rattle.ccr_claim.specs.declared.asks.Reply.TheVariants as replies
 use Rattle.ccr_claim.specs.declared.asks.Asked.{Asked}
@@ -23,7 +26,7 @@ use Rattle.ccr_actor.specs.Actors.{State, state_after, next}
 use Rattle.ccr_runs.specs.declared.entries.Entry.{Entry}
 use Rattle.ccr_runs.specs.Visible.{visible}
 use Rattle.ccr_runs.specs.Views.{view, cut_view}
-use Rattle.ccr_runs.specs.Places.{note_of, port_after}
+use Rattle.ccr_runs.specs.Places.{note_of, port_after, queue_after, site_after, interleave_after}
 
 -- whether the two are one place
 abbrev pub same_place : Place → Place → Bool
@@ -45,6 +48,18 @@ notes_at entries place = flat_map (note_at place) entries
 -- the port of this number
 abbrev pub port_at : List Entry → ℕ → PortState
 port_at entries number = port_after number (notes_at entries (places.Port number))
+
+-- the queue of this number
+abbrev pub queue_at : Parts → List Entry → ℕ → QueueState
+queue_at wiring entries number = queue_after wiring number (notes_at entries (places.Queue number))
+
+-- the await site
+abbrev pub site_at : List Entry → ℕ → ℕ → SiteState
+site_at entries branch site = site_after branch site (notes_at entries (places.Site branch site))
+
+-- the domain of Interleaves of this number
+abbrev pub domain_at : Parts → List Entry → ℕ → InterleaveState
+domain_at wiring entries domain = interleave_after wiring domain (notes_at entries (places.Arbiter domain))
 
 -- ---- replies
 

@@ -28,6 +28,7 @@ enum Sort {
 pub struct Directory {
     places: List<Place>,
     ports: List<u32>,
+    /// By the number of the domain.
     arbiters: List<u32>,
     /// By the branch, then by the site.
     sites: List<List<u32>>,

@@ -37,7 +37,7 @@ use Rattle.ccr_base.proofs.Booleans.{both, no_both, or_left, or_right, refuted, 
 use Rattle.ccr_base.proofs.Options.{some-below}
 use Rattle.ccr_model.proofs.Members.{Among, Among-right, Among-filter}
 use Rattle.ccr_model.proofs.PostNames.{refused_not}
-use Rattle.ccr_model.proofs.SameNames.{same_message-is}
+use Rattle.ccr_base.proofs.SameNames.{same_message-is}
 use Rattle.ccr_model.proofs.Stable.{firings-append, play_of-append}
 use Rattle.ccr_model.proofs.Cutting.{cut_not_started, cut_not_put}
 use Rattle.ccr_model.proofs.Ending.{AreEnded-legal}

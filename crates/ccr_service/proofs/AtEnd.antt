@@ -40,7 +40,7 @@ use Rattle.ccr_base.proofs.Options.{none_or}
 use Rattle.ccr_model.proofs.Members.{Among}
 use Rattle.ccr_model.proofs.CanFire.{some_fire_at}
 use Rattle.ccr_model.proofs.TasksLeft.{of_without, out_left}
-use Rattle.ccr_model.proofs.SameNames.{same_task-self}
+use Rattle.ccr_base.proofs.SameNames.{same_task-self}
 use Rattle.ccr_laws.specs.OneFate.{IsIn, HasEnded}
 use Rattle.ccr_model.proofs.TaskLists.{out_right, among_right, no_members}
 use Rattle.ccr_model.proofs.AllowedFirings.{fired_by_named, BranchFacts-where}

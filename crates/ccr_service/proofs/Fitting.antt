@@ -27,7 +27,7 @@ use Rattle.ccr_wiring.specs.Valid.{IsValid}
 use Rattle.ccr_wiring.proofs.Validity.{no_code}
 use Rattle.ccr_wiring.specs.Wirings.{actions_of, awaited}
 use Rattle.ccr_wiring.proofs.Crowds.{times_append}
-use Rattle.ccr_base.proofs.Booleans.{both, no_both, same_number, not_true, eq-self}
+use Rattle.ccr_base.proofs.Booleans.{both, no_both, same_number, not_true, eq-self, none_or_false}
 use Rattle.ccr_base.proofs.Options.{some-below}
 use Rattle.ccr_model.proofs.Members.{Among, Among-at}
 use Rattle.ccr_service.specs.declared.parts.AskPart.{AskPart}
@@ -43,9 +43,6 @@ use Rattle.ccr_service.proofs.Naming.{names_apart, names_formed, all_pass}
 none_any : {X : Type 0} (p : X → Bool) (xs : List X) → ((x : X) → Among x xs → p x ≡ false) → list_any p xs ≡ false
 none_any p [] none = refl
 none_any p (x ∷ xs) none = rw (none x (inl refl), none_any p xs (λ y is. none y (inr is))) refl
-
-one_any : (b : Bool) → b ≡ false → b || false ≡ false
-one_any b e = rw e refl
 
 -- ---- how many there are
 
@@ -218,10 +215,10 @@ dangling : (s : ServiceParts) → IsService s → has_dangling (expansion s) ≡
 dangling s is = rw (cause_there s (length s.ops + length s.ops) s.clients (omega arith), in_handlers, in_arbiter, in_posters) refl
   where
     in_handlers : has_dangling_handler (expansion s) ≡ false
-    in_handlers = handlers_none s (handler_is_dangling (expansion s)) (λ k part at. one_any (no_port (expansion s) (response_port k)) (port_there s (response_port k) (let lt = some-below s.ops k part at in omega (arith, lt)))) refl
+    in_handlers = handlers_none s (handler_is_dangling (expansion s)) (λ k part at. none_or_false (no_port (expansion s) (response_port k)) (port_there s (response_port k) (let lt = some-below s.ops k part at in omega (arith, lt)))) refl
 
     in_arbiter : has_dangling_arbiter (expansion s) ≡ false
-    in_arbiter = one_any (list_any (branch_is_dangling (expansion s)) (branches_from (length s.ops) 0 s.ops)) (none_any (branch_is_dangling (expansion s)) (branches_from (length s.ops) 0 s.ops) (branch_named_there s))
+    in_arbiter = none_or_false (list_any (branch_is_dangling (expansion s)) (branches_from (length s.ops) 0 s.ops)) (none_any (branch_is_dangling (expansion s)) (branches_from (length s.ops) 0 s.ops) (branch_named_there s))
 
     in_posters : has_dangling_poster (expansion s) ≡ false
     in_posters = posts_none s is (post_is_dangling (expansion s)) each
@@ -247,7 +244,7 @@ newer : (s : ServiceParts) → IsService s → has_newer (expansion s) ≡ false
 newer s is = rw (in_handlers, in_posters) refl
   where
     in_handlers : list_any handler_is_newer (handlers s.ops) ≡ false
-    in_handlers = handlers_none s handler_is_newer (λ k part at. one_any (expr_is_newer part.expr) (not_true (expr_is_newer part.expr) (both (not (expr_is_newer part.expr)) _ (op_so s is k part at).1).0)) refl
+    in_handlers = handlers_none s handler_is_newer (λ k part at. none_or_false (expr_is_newer part.expr) (not_true (expr_is_newer part.expr) (both (not (expr_is_newer part.expr)) _ (op_so s is k part at).1).0)) refl
 
     in_posters : list_any poster_is_newer (posters_from 0 s.clients) ≡ false
     in_posters = posts_none s is (λ (post : Sent). is_long post.value) (λ client ask lt below. refl)
@@ -282,7 +279,7 @@ outside : (s : ServiceParts) → IsService s → has_outside (expansion s) ≡ f
 outside s is = rw (many s is, is.policy, in_handlers, in_branches) refl
   where
     in_handlers : has_outside_handler (expansion s) ≡ false
-    in_handlers = handlers_none s handler_is_outside (λ k part at. one_any (expr_is_outside part.expr) (not_true (expr_is_outside part.expr) (both (not (expr_is_newer part.expr)) (not (expr_is_outside part.expr)) (op_so s is k part at).1).1)) refl
+    in_handlers = handlers_none s handler_is_outside (λ k part at. none_or_false (expr_is_outside part.expr) (not_true (expr_is_outside part.expr) (both (not (expr_is_newer part.expr)) (not (expr_is_outside part.expr)) (op_so s is k part at).1).1)) refl
 
     in_branches : list_any branch_is_outside (branches_from (length s.ops) 0 s.ops) ≡ false
     in_branches = none_any branch_is_outside (branches_from (length s.ops) 0 s.ops) (λ b among. ap pattern_is_outside (branch_so s b among).serves.pattern)

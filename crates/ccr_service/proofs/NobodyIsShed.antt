@@ -22,17 +22,18 @@ use Rattle.ccr_model.specs.Tasks.{running, has_post_left}
 use Rattle.ccr_model.specs.Rules.{refusal_of_post, is_play_post, may_end}
 use Rattle.ccr_model.specs.Legal.{IsAllowed, IsLegal, has_shed, is_complete, are_whole_from}
 use Rattle.ccr_model.proofs.Allowing.{OneName-legal}
-use Rattle.ccr_base.proofs.Booleans.{both, either, no_both, or_left, or_right, refuted, same_number}
+use Rattle.ccr_base.proofs.Booleans.{both, either, no_both, or_left, refuted, same_number}
 use Rattle.ccr_model.proofs.Members.{Among, Among-left, Among-right, Among-either}
 use Rattle.ccr_model.proofs.PostNames.{refused_not, times, posted_once}
 use Rattle.ccr_model.proofs.LegalParts.{along_legal}
 use Rattle.ccr_model.proofs.OneMoreEvent.{posts-push, ended-push}
-use Rattle.ccr_model.proofs.SameNames.{same_message-self, same_task-self, same_task-is}
+use Rattle.ccr_base.proofs.SameNames.{same_message-self, same_task-self, same_task-is}
 use Rattle.ccr_model.proofs.Stable.{firing_named-append}
 use Rattle.ccr_model.proofs.Ending.{RunningFacts-running}
 use Rattle.ccr_model.proofs.FiredTasks.{IsFired, fired_has}
 use Rattle.ccr_model.proofs.TakenOnce.{times_named, taken_once}
 use Rattle.ccr_model.proofs.TaskLists.{of_more, of_one, among_left}
+use Rattle.ccr_model.proofs.TasksLeft.{has_task-last}
 use Rattle.ccr_service.specs.declared.parts.AskPart.{AskPart}
 use Rattle.ccr_service.specs.declared.parts.ClientPart.{ClientPart}
 use Rattle.ccr_service.specs.declared.parts.ServiceParts.{ServiceParts}
@@ -119,13 +120,9 @@ sheds_kept s h (End u ends.Shed) legal allowed known t is =
         let none : posts_of_task h u ≡ 0 = grind (arith, nat_tests, below) in
         record {
           fired = (fired.0, firing_named-append h (End u ends.Shed ∷ []) u fired.0 fired.1);
-          ended_so = subst (λ ts. has_task ts u ≡ true) (sym (ended-push h (End u ends.Shed))) (right (ended h) u);
+          ended_so = subst (λ ts. has_task ts u ≡ true) (sym (ended-push h (End u ends.Shed))) (has_task-last (ended h) u);
           silent = same_posts h (End u ends.Shed) u refl ∙ none;
         }
-      where
-        right : (ts : List TaskId) (u : TaskId) → has_task (ts ++ u ∷ []) u ≡ true
-        right [] u = or_left (same_task u u) false (same_task-self u)
-        right (t ∷ ts) u = or_right (same_task u t) (has_task (ts ++ u ∷ []) u) (right ts u)
 sheds_kept s h (End x ends.Done) legal allowed known t is = no_more_sheds h (End x ends.Done) refl refl known t is
 sheds_kept s h (End x (ends.Failed v)) legal allowed known t is = no_more_sheds h (End x (ends.Failed v)) refl refl known t is
 sheds_kept s h (End x ends.Yield) legal allowed known t is = no_more_sheds h (End x ends.Yield) refl refl known t is

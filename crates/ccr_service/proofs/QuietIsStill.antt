@@ -1,6 +1,6 @@
 -- Without awaits a quiet history is still.
-use Rattle.std.proofs.Common.{◌≡◌, ℕ, ◌+◌, ◌<◌, ◌≤◌, Bool, true, false, ◌||◌, List, [], ◌∷◌, ◌++◌, length, Option, Some, None, refl, sym, ap, ◌∙◌, arith, subst}
-use Rattle.std.specs.Prelude.{◌==◌, if◌then◌else◌, IfSome, option_map}
+use Rattle.std.proofs.Common.{◌≡◌, ℕ, ◌+◌, ◌<◌, ◌≤◌, Bool, true, false, ◌||◌, List, [], ◌∷◌, ◌++◌, length, Some, None, refl, sym, ap, ◌∙◌, arith, subst}
+use Rattle.std.specs.Prelude.{◌==◌, if◌then◌else◌, option_map}
 use Rattle.std.specs.List.{slice_get, list_any, list_all}
 use Rattle.ccr_base.specs.declared.names.TaskId.{TaskId}
 use Rattle.ccr_base.specs.Names.{same_task, has_task, without}
@@ -16,13 +16,13 @@ use Rattle.ccr_model.specs.Tasks.{waiting, admitted, queued, running, is_over, i
 use Rattle.ccr_model.specs.Live.{is_none_of}
 use Rattle.ccr_model.specs.Rules.{may_put, may_admit, drop_at, is_oldest_waiting, is_concurrent_task, needs_no_admission}
 use Rattle.ccr_model.specs.Order.{first, post_from, fire_from, admit_from, put_first, run_task, start_from}
-use Rattle.ccr_model.specs.Legal.{IsAllowed, IsLegal, IsQuiet}
+use Rattle.ccr_model.specs.Legal.{IsLegal, IsQuiet}
 use Rattle.ccr_model.proofs.Allowing.{first_allowed, same_option-self}
 use Rattle.ccr_base.proofs.Booleans.{both, no_both, or_left, or_right, refuted, same_number, eq-self}
-use Rattle.ccr_model.proofs.QuietAllowsNone.{start_none}
+use Rattle.ccr_model.proofs.QuietAllowsNone.{start_none, none_if_quiet}
 use Rattle.ccr_base.proofs.Options.{none_or, none_map, no_head, some_of}
 use Rattle.ccr_model.proofs.FiredTasks.{IsFired, placement_fired}
-use Rattle.ccr_model.proofs.SameNames.{same_task-self, same_task-is}
+use Rattle.ccr_base.proofs.SameNames.{same_task-self, same_task-is}
 use Rattle.ccr_model.specs.Interleaves.{is_placement_in}
 use Rattle.ccr_model.proofs.TaskLists.{to_filter, to_without, not_more, no_members}
 use Rattle.ccr_model.proofs.WhoWasPut.{placement_by, QueuedFacts-queued}
@@ -33,11 +33,6 @@ use Rattle.ccr_model.proofs.Allowing.{OneName-legal}
 use Rattle.ccr_service.specs.Stillness.{HasNoAwaits, IsStill}
 use Rattle.ccr_service.proofs.NoAwaits.{at_branches, none_yields, ended_last, dropped_last}
 
--- nothing comes first
-none_first : (w : Parts) (c : ℕ) (h : List Event) → IsQuiet w h → (o : Option Event) → IfSome o (IsAllowed w h) → o ≡ None
-none_first w c h quiet None allowed = refl
-none_first w c h quiet (Some e) allowed = absurd (quiet e allowed)
-
 -- what is left of `first` at the end
 pub record AtEnd (w : Parts) (h : List Event) : Type 0 where
   pub fires : fire_from w (length w.posters) h (spots w) ≡ None
@@ -47,7 +42,7 @@ pub record AtEnd (w : Parts) (h : List Event) : Type 0 where
 pub AtEnd-quiet : (w : Parts) → length w.posters ≤ 32 → (h : List Event) → IsLegal w h → IsQuiet w h → AtEnd w h
 AtEnd-quiet w few h legal quiet =
     let c : ℕ = length w.posters in
-    let is = none_first w c h quiet (first w c h) (first_allowed w c h (omega arith) few legal) in
+    let is = none_if_quiet w h quiet (first w c h) (first_allowed w c h (omega arith) few legal) in
     let a = none_or (post_from h 0 w.posters) _ is in
     let b = none_or (fire_from w c h (spots w)) _ a.1 in
     let d = none_or (admit_from w h 0 w.arbiters) _ b.1 in

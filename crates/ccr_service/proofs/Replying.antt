@@ -25,7 +25,7 @@ use Rattle.ccr_model.proofs.Members.{Among, Among-either}
 use Rattle.ccr_model.proofs.PostNames.{refused_not, times, posted_once}
 use Rattle.ccr_model.proofs.LegalParts.{along_legal}
 use Rattle.ccr_model.proofs.OneMoreEvent.{posts-push, started-push}
-use Rattle.ccr_model.proofs.SameNames.{same_message-self, same_task-is}
+use Rattle.ccr_base.proofs.SameNames.{same_message-self, same_task-is}
 use Rattle.ccr_model.proofs.Stable.{firing_named-append, play_of-append}
 use Rattle.ccr_model.proofs.Ending.{RunningFacts-running}
 use Rattle.ccr_model.proofs.FiredTasks.{IsFired}

@@ -29,12 +29,12 @@ use Rattle.ccr_model.proofs.TakenOnce.{joined_some, FireFacts-allowed}
 use Rattle.ccr_model.proofs.AllowedFirings.{FiresSo-allowed, firing_named-new, before-new}
 use Rattle.ccr_model.proofs.Roots.{of_firing, other_firing}
 use Rattle.ccr_model.proofs.FirstNames.{same_names}
+use Rattle.ccr_model.proofs.OneMoreEvent.{posts-append}
 use Rattle.ccr_service.specs.declared.parts.ServiceParts.{ServiceParts}
 use Rattle.ccr_service.specs.Expansion.{request_port, expansion}
 use Rattle.ccr_service.proofs.NoAwaits.{no_site_fires}
 use Rattle.ccr_service.proofs.Shape.{PlacementFacts, PlacementFacts-placement, one_slot, awaits_none}
 use Rattle.ccr_service.proofs.WhatExpansionsPost.{named_so}
-use Rattle.ccr_laws.proofs.OneFates.{posts-append}
 
 -- ---- over plain lists
 

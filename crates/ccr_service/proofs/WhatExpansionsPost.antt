@@ -30,6 +30,7 @@ use Rattle.ccr_model.specs.Rules.{refusal_of_post, is_script_line, is_play_post,
 use Rattle.ccr_model.specs.Legal.{IsAllowed, IsLegal}
 use Rattle.ccr_base.proofs.Booleans.{both, same_number}
 use Rattle.ccr_base.proofs.Options.{some_of, some_then}
+use Rattle.ccr_base.proofs.SameNames.{same_numbers-is}
 use Rattle.ccr_model.proofs.Members.{Among, Among-either}
 use Rattle.ccr_model.proofs.PostNames.{refused_not, posted_once}
 use Rattle.ccr_model.proofs.LegalParts.{along_legal}
@@ -41,7 +42,6 @@ use Rattle.ccr_service.specs.declared.parts.ServiceParts.{ServiceParts}
 use Rattle.ccr_service.specs.Expansion.{request_port, response_port, request, causes_from, posters_from, expansion}
 use Rattle.ccr_service.proofs.NoAwaits.{at_branches}
 use Rattle.ccr_service.proofs.Shape.{Role, PlacementFacts, PlacementFacts-placement, awaits_none, op_actions, fault_actions}
-use Rattle.ccr_laws.proofs.ScriptLines.{same_causes as same_numbers}
 
 -- ---- requests
 
@@ -87,7 +87,7 @@ pub IsPost-test : (m : Msg) (x : Sent) → is_post m x ≡ true → IsPost m x
 IsPost-test m x is =
     let parts = both ((m.port == x.port) && same_value m.value x.value) (same_lists (λ c d. c == d) m.causes x.causes) is in
     let first = both (m.port == x.port) (same_value m.value x.value) parts.0 in
-    record { port = same_number m.port x.port first.0; value = same_values m.value x.value first.1; causes = same_numbers m.causes x.causes parts.1 }
+    record { port = same_number m.port x.port first.0; value = same_values m.value x.value first.1; causes = same_numbers-is m.causes x.causes parts.1 }
 
 asked_now : (s : ServiceParts) (h : List Event) (m : Msg) (client index : ℕ) → refusal_of_post (expansion s) h m (Script client index) ≡ None → IsAsked s m client index
 asked_now s h m client index allowed =

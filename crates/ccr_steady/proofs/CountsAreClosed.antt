@@ -50,7 +50,7 @@ use Rattle.ccr_model.proofs.LegalParts.{along_legal}
 use Rattle.ccr_model.proofs.Members.{Among, all_from}
 use Rattle.ccr_model.proofs.PostNames.{refused_not}
 use Rattle.ccr_model.proofs.OneMoreEvent.{posts-push, ended-push, has_shed-push}
-use Rattle.ccr_model.proofs.SameNames.{same_task-is}
+use Rattle.ccr_base.proofs.SameNames.{same_task-is}
 use Rattle.ccr_model.proofs.Stable.{play_of-append}
 use Rattle.ccr_model.proofs.TasksLeft.{has_task-append, of_without, out_left}
 use Rattle.ccr_model.proofs.Ending.{AreEnded-legal, RunningFacts-running}

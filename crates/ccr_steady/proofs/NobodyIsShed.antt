@@ -26,7 +26,7 @@ use Rattle.ccr_model.proofs.LegalParts.{along_legal}
 use Rattle.ccr_model.proofs.Members.{Among, Among-left, found_among}
 use Rattle.ccr_model.proofs.PostNames.{refused_not}
 use Rattle.ccr_model.proofs.OneMoreEvent.{posts-push, firings-push, ended-push, has_shed-push}
-use Rattle.ccr_model.proofs.SameNames.{same_task-is, same_task-self}
+use Rattle.ccr_base.proofs.SameNames.{same_task-is, same_task-self}
 use Rattle.ccr_model.proofs.Ending.{RunningFacts-running}
 use Rattle.ccr_steady.specs.Flow.{posts_weigh, IsSteady, IsClosed, IsFlow, weigh, each, task_posts}
 use Rattle.ccr_laws.specs.Times.{times_fired}

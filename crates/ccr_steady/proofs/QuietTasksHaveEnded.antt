@@ -32,7 +32,7 @@ use Rattle.ccr_base.proofs.Booleans.{no_both}
 use Rattle.ccr_model.proofs.Members.{found_among}
 use Rattle.ccr_base.proofs.Options.{no_head, none_map}
 use Rattle.ccr_model.proofs.PlacementDomains.{placement-within}
-use Rattle.ccr_model.proofs.SameNames.{same_task-is, same_task-self}
+use Rattle.ccr_base.proofs.SameNames.{same_task-is, same_task-self}
 use Rattle.ccr_laws.specs.OneFate.{IsIn, Waits, IsQueued}
 use Rattle.ccr_model.proofs.AllowedFirings.{WaitingFacts-waiting}
 use Rattle.ccr_model.proofs.Roots.{root_own, AdmittedFacts-admitted}

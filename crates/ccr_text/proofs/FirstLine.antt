@@ -1,21 +1,16 @@
 -- The first line of a text, run by run.
 use Rattle.std.proofs.Common.{◌≡◌, ◌≢◌, ℕ, ◌≤◌, Bool, true, false, List, [], ◌∷◌, ◌++◌, Bor, Option, Some, None, length, refl, sym, ap, subst, ◌∙◌, append_assoc, append-nil, arith}
-use Rattle.std.specs.Prelude.{◌==◌, ◌&&◌, ◌||◌, not, filter, IfSome, IfNone, if◌then◌else◌}
+use Rattle.std.specs.Prelude.{◌==◌, ◌&&◌, ◌||◌, not, filter, IfSome, IfNone}
 use Rattle.std.specs.List.{list_all, onto_first}
 use Rattle.std.proofs.lemmas.Bool.Decides.{nat_tests}
 use Rattle.ccr_text.specs.Words.{is_blank, is_graphic, is_clean, pieces, words_of}
-use Rattle.ccr_text.specs.Lines.{split_text, first_line}
+use Rattle.ccr_text.specs.Lines.{split_text, first_line, behind_line}
 use Rattle.std.proofs.lemmas.Bool.{and_parts as both}
 use Rattle.std.proofs.Math.Bool.{and-true}
 use Rattle.ccr_base.proofs.Lists.{length_behind}
 
 abbrev pub AllGraphic : List ℕ → Type 0
 AllGraphic word = list_all is_graphic word ≡ true
-
--- what stands behind the first LF
-abbrev pub behind_line : List ℕ → List ℕ
-behind_line [] = []
-behind_line (b ∷ bytes) = if b == 10 then bytes else behind_line bytes
 
 -- the word alone, or nothing where it has no byte
 abbrev pub alone : List ℕ → List (List ℕ)

@@ -15,6 +15,11 @@ abbrev pub first_line : List ℕ → List ℕ
 first_line [] = []
 first_line (b ∷ bytes) = if b == 10 then [] else b ∷ first_line bytes
 
+-- what stands behind the first LF
+abbrev pub behind_line : List ℕ → List ℕ
+behind_line [] = []
+behind_line (b ∷ bytes) = if b == 10 then bytes else behind_line bytes
+
 -- whether an LF stands in the bytes
 abbrev pub has_feed : List ℕ → Bool
 has_feed bytes = list_any (λ b. b == 10) bytes

@@ -5,7 +5,7 @@ use Rattle.std.specs.Option.{option_map}
 use Rattle.std.proofs.lemmas.Bool.Decides.{nat_tests}
 use Rattle.ccr_base.specs.declared.names.MsgId.TheVariants as ids
 use Rattle.ccr_text.specs.Exact.{number_first}
-use Rattle.ccr_trace.specs.Fields.{◌>>=◌, each, where_short, where_few, values_in, exact_number, short_number, task_in, script_in, answer_in}
+use Rattle.ccr_trace.specs.Fields.{◌>>=◌, each, where_short, where_few, values_in, exact_number, short_number, task_in, script_in, task_message_in}
 use Rattle.ccr_trace.specs.Forms.{field}
 use Rattle.ccr_text.specs.Fields.{Words}
 use Rattle.ccr_trace.proofs.ReadTellsSteps.{field_some}
@@ -117,44 +117,44 @@ script_no_second words second a e f =
     by (k ∷ i ∷ left) g = refl
 
 -- A.K.I
-pub answer_numbers : (words second third rest : Words) (a k i : ℕ) → field short_number words ≡ Some (a, second) → field short_number second ≡ Some (k, third) → field short_number third ≡ Some (i, rest)
-    → answer_in words ≡ cond (length rest == 0) (Some (ids.Task (record { actor = a; attempt = k }) i)) None
-answer_numbers words second third rest a k i e f g =
+pub task_message_numbers : (words second third rest : Words) (a k i : ℕ) → field short_number words ≡ Some (a, second) → field short_number second ≡ Some (k, third) → field short_number third ≡ Some (i, rest)
+    → task_message_in words ≡ cond (length rest == 0) (Some (ids.Task (record { actor = a; attempt = k }) i)) None
+task_message_numbers words second third rest a k i e f g =
     let first = field_some short_number words (a, second) e in
     let next = field_some short_number second (k, third) f in
     let last = field_some short_number third (i, rest) g in
-    ap answer_in (first.1 ∙ ap (λ (ws : Words). first.0 ∷ ws) (next.1 ∙ ap (λ (ws : Words). next.0 ∷ ws) last.1)) ∙ by rest
+    ap task_message_in (first.1 ∙ ap (λ (ws : Words). first.0 ∷ ws) (next.1 ∙ ap (λ (ws : Words). next.0 ∷ ws) last.1)) ∙ by rest
   where
-    by : (left : Words) → answer_in ((field_some short_number words (a, second) e).0 ∷ (field_some short_number second (k, third) f).0 ∷ (field_some short_number third (i, rest) g).0 ∷ left)
+    by : (left : Words) → task_message_in ((field_some short_number words (a, second) e).0 ∷ (field_some short_number second (k, third) f).0 ∷ (field_some short_number third (i, rest) g).0 ∷ left)
         ≡ cond (length left == 0) (Some (ids.Task (record { actor = a; attempt = k }) i)) None
     by [] = rw ((field_some short_number words (a, second) e).2, (field_some short_number second (k, third) f).2, (field_some short_number third (i, rest) g).2) refl
     by (w ∷ left) = rw (some_left w left) refl
 
-pub answer_no_first : (words : Words) → field short_number words ≡ None → answer_in words ≡ None
-answer_no_first [] e = refl
-answer_no_first (a ∷ []) e = refl
-answer_no_first (a ∷ k ∷ []) e = refl
-answer_no_first (a ∷ k ∷ i ∷ []) e = rw (field_none short_number a (k ∷ i ∷ []) e) refl
-answer_no_first (a ∷ k ∷ i ∷ j ∷ words) e = refl
+pub task_message_no_first : (words : Words) → field short_number words ≡ None → task_message_in words ≡ None
+task_message_no_first [] e = refl
+task_message_no_first (a ∷ []) e = refl
+task_message_no_first (a ∷ k ∷ []) e = refl
+task_message_no_first (a ∷ k ∷ i ∷ []) e = rw (field_none short_number a (k ∷ i ∷ []) e) refl
+task_message_no_first (a ∷ k ∷ i ∷ j ∷ words) e = refl
 
-pub answer_no_second : (words second : Words) (a : ℕ) → field short_number words ≡ Some (a, second) → field short_number second ≡ None → answer_in words ≡ None
-answer_no_second words second a e f =
+pub task_message_no_second : (words second : Words) (a : ℕ) → field short_number words ≡ Some (a, second) → field short_number second ≡ None → task_message_in words ≡ None
+task_message_no_second words second a e f =
     let first = field_some short_number words (a, second) e in
-    ap answer_in first.1 ∙ by second f
+    ap task_message_in first.1 ∙ by second f
   where
-    by : (left : Words) → field short_number left ≡ None → answer_in ((field_some short_number words (a, second) e).0 ∷ left) ≡ None
+    by : (left : Words) → field short_number left ≡ None → task_message_in ((field_some short_number words (a, second) e).0 ∷ left) ≡ None
     by [] g = refl
     by (k ∷ []) g = refl
     by (k ∷ i ∷ []) g = rw ((field_some short_number words (a, second) e).2, field_none short_number k (i ∷ []) g) refl
     by (k ∷ i ∷ j ∷ left) g = refl
 
-pub answer_no_third : (words second third : Words) (a k : ℕ) → field short_number words ≡ Some (a, second) → field short_number second ≡ Some (k, third) → field short_number third ≡ None → answer_in words ≡ None
-answer_no_third words second third a k e f g =
+pub task_message_no_third : (words second third : Words) (a k : ℕ) → field short_number words ≡ Some (a, second) → field short_number second ≡ Some (k, third) → field short_number third ≡ None → task_message_in words ≡ None
+task_message_no_third words second third a k e f g =
     let first = field_some short_number words (a, second) e in
     let next = field_some short_number second (k, third) f in
-    ap answer_in (first.1 ∙ ap (λ (ws : Words). first.0 ∷ ws) next.1) ∙ by third g
+    ap task_message_in (first.1 ∙ ap (λ (ws : Words). first.0 ∷ ws) next.1) ∙ by third g
   where
-    by : (left : Words) → field short_number left ≡ None → answer_in ((field_some short_number words (a, second) e).0 ∷ (field_some short_number second (k, third) f).0 ∷ left) ≡ None
+    by : (left : Words) → field short_number left ≡ None → task_message_in ((field_some short_number words (a, second) e).0 ∷ (field_some short_number second (k, third) f).0 ∷ left) ≡ None
     by [] h = refl
     by (i ∷ []) h = rw ((field_some short_number words (a, second) e).2, (field_some short_number second (k, third) f).2, field_none short_number i [] h) refl
     by (i ∷ j ∷ left) h = refl
@@ -227,4 +227,4 @@ pub ruleset task_steps = (task_numbers, task_no_first, task_no_second)
 
 pub ruleset script_steps = (script_numbers, script_no_first, script_no_second)
 
-pub ruleset answer_steps = (answer_numbers, answer_no_first, answer_no_second, answer_no_third)
+pub ruleset task_message_steps = (task_message_numbers, task_message_no_first, task_message_no_second, task_message_no_third)

@@ -71,10 +71,10 @@ script_scanned numbers rest a k behind e f =
     let words = letter_number 115 numbers rest first.0 next.0 a behind refl first.2 (cut_at 46 numbers first.0 rest first.1) next.1 in
     rw (words, pieces_first 46 first.0 next.0 (number_lacks 46 first.0 a refl first.2), pieces_only 46 next.0 (number_lacks 46 next.0 k refl next.2), first.2, next.2) refl
 
-pub answer_scanned : (numbers second third : List ℕ) (a k i : ℕ) (behind : Words) → field short_number (pieces 46 numbers) ≡ Some (a, pieces 46 second) → field short_number (pieces 46 second) ≡ Some (k, pieces 46 third)
+pub task_message_scanned : (numbers second third : List ℕ) (a k i : ℕ) (behind : Words) → field short_number (pieces 46 numbers) ≡ Some (a, pieces 46 second) → field short_number (pieces 46 second) ≡ Some (k, pieces 46 third)
     → field short_number (pieces 32 third) ≡ Some (i, behind) → field message_of (pieces 32 (116 ∷ numbers)) ≡ Some (ids.Task (record { actor = a; attempt = k }) i, behind)
 unfolding message_of
-answer_scanned numbers second third a k i behind e f g =
+task_message_scanned numbers second third a k i behind e f g =
     let first = field_some short_number (pieces 46 numbers) (a, pieces 46 second) e in
     let next = field_some short_number (pieces 46 second) (k, pieces 46 third) f in
     let last = field_some short_number (pieces 32 third) (i, behind) g in

@@ -14,7 +14,7 @@ use Rattle.ccr_trace.specs.Words.{task_word, message_word}
 use Rattle.ccr_text.specs.Exact.{value_word}
 use Rattle.ccr_trace.specs.Pieces.{pieces}
 use Rattle.ccr_trace.specs.Said.{SpotName, spot_name_word, most_numbers, IsTask, IsMessage, IsName, IsSite, IsValue}
-use Rattle.ccr_trace.specs.Fields.{each, where_spelled, where_short, where_few, exact_number, short_number, value_of, name_of, task_in, task_of, script_in, answer_in, message_of, spot_with, spot_in, spot_of}
+use Rattle.ccr_trace.specs.Fields.{each, where_spelled, where_short, where_few, exact_number, short_number, value_of, name_of, task_in, task_of, script_in, task_message_in, message_of, spot_with, spot_in, spot_of}
 use Rattle.ccr_trace.proofs.ReadTellsSteps.{bind_some, some_is, only_one, spelled_is, short_is, few_is, some_pieces}
 use Rattle.ccr_text.specs.Fields.{Words}
 
@@ -87,11 +87,11 @@ script_parts numbers (a ∷ k ∷ []) message is e =
     ((first.0, second.0), rw (first.1, second.1) (ap (λ (v : List ℕ). 115 ∷ v) (joined_of 46 numbers (a ∷ k ∷ []) is)))
 script_parts numbers (a ∷ k ∷ i ∷ more) message is e = absurd cc
 
-answer_parts : (numbers : List ℕ) (parts : List (List ℕ)) (message : MsgId) → pieces 46 numbers ≡ parts → answer_in parts ≡ Some message → IsMessage message × (message_word message ≡ 116 ∷ numbers)
-answer_parts numbers [] message is e = absurd cc
-answer_parts numbers (a ∷ []) message is e = absurd cc
-answer_parts numbers (a ∷ k ∷ []) message is e = absurd cc
-answer_parts numbers (a ∷ k ∷ i ∷ []) message is e =
+task_message_parts : (numbers : List ℕ) (parts : List (List ℕ)) (message : MsgId) → pieces 46 numbers ≡ parts → task_message_in parts ≡ Some message → IsMessage message × (message_word message ≡ 116 ∷ numbers)
+task_message_parts numbers [] message is e = absurd cc
+task_message_parts numbers (a ∷ []) message is e = absurd cc
+task_message_parts numbers (a ∷ k ∷ []) message is e = absurd cc
+task_message_parts numbers (a ∷ k ∷ i ∷ []) message is e =
     let actor = bind_some (short_number a) _ message e in
     let attempt = bind_some (short_number k) _ message actor.2 in
     let place = bind_some (short_number i) _ message attempt.2 in
@@ -101,7 +101,7 @@ answer_parts numbers (a ∷ k ∷ i ∷ []) message is e =
     let third = short_said i place.0 place.1 in
     subst (λ (m : MsgId). IsMessage m × (message_word m ≡ 116 ∷ numbers)) same
     (((first.0, second.0), third.0), rw (first.1, second.1, third.1) (ap (λ (v : List ℕ). 116 ∷ v) (append_assoc a (46 ∷ k) (46 ∷ i) ∙ joined_of 46 numbers (a ∷ k ∷ i ∷ []) is)))
-answer_parts numbers (a ∷ k ∷ i ∷ j ∷ more) message is e = absurd cc
+task_message_parts numbers (a ∷ k ∷ i ∷ j ∷ more) message is e = absurd cc
 
 -- sA.K or tA.K.I
 pub message_said : (w : List ℕ) (message : MsgId) → message_of w ≡ Some message → IsMessage message × (message_word message ≡ w)
@@ -109,13 +109,13 @@ unfolding message_of
 message_said [] message e = absurd cc
 message_said (b ∷ numbers) message e = by (chosen (b == 115) (script_in (pieces 46 numbers)) _ (Some message) e)
   where
-    other : (((b == 116) ≡ true) × (answer_in (pieces 46 numbers) ≡ Some message)) ⊎ (((b == 116) ≡ false) × (None ≡ Some message)) → IsMessage message × (message_word message ≡ b ∷ numbers)
-    other (inl h) = let first : b ≡ 116 = same_number b 116 h.0 in rw first (answer_parts numbers (pieces 46 numbers) message refl h.1)
+    other : (((b == 116) ≡ true) × (task_message_in (pieces 46 numbers) ≡ Some message)) ⊎ (((b == 116) ≡ false) × (None ≡ Some message)) → IsMessage message × (message_word message ≡ b ∷ numbers)
+    other (inl h) = let first : b ≡ 116 = same_number b 116 h.0 in rw first (task_message_parts numbers (pieces 46 numbers) message refl h.1)
     other (inr h) = absurd cc
 
-    by : (((b == 115) ≡ true) × (script_in (pieces 46 numbers) ≡ Some message)) ⊎ (((b == 115) ≡ false) × (cond (b == 116) (answer_in (pieces 46 numbers)) None ≡ Some message)) → IsMessage message × (message_word message ≡ b ∷ numbers)
+    by : (((b == 115) ≡ true) × (script_in (pieces 46 numbers) ≡ Some message)) ⊎ (((b == 115) ≡ false) × (cond (b == 116) (task_message_in (pieces 46 numbers)) None ≡ Some message)) → IsMessage message × (message_word message ≡ b ∷ numbers)
     by (inl h) = let first : b ≡ 115 = same_number b 115 h.0 in rw first (script_parts numbers (pieces 46 numbers) message refl h.1)
-    by (inr h) = other (chosen (b == 116) (answer_in (pieces 46 numbers)) None (Some message) h.1)
+    by (inr h) = other (chosen (b == 116) (task_message_in (pieces 46 numbers)) None (Some message) h.1)
 
 -- a name
 pub name_said : (w name : List ℕ) → name_of w ≡ Some name → IsName name × (name ≡ w)

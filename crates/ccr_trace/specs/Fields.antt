@@ -73,18 +73,18 @@ script_in (actor ∷ place ∷ []) = do
 script_in _ = None
 
 -- A.K.I
-abbrev pub answer_in : List (List ℕ) → Option MsgId
-answer_in (actor ∷ attempt ∷ place ∷ []) = do
+abbrev pub task_message_in : List (List ℕ) → Option MsgId
+task_message_in (actor ∷ attempt ∷ place ∷ []) = do
   a ← short_number actor
   k ← short_number attempt
   i ← short_number place
   Some (ids.Task (record { actor = a; attempt = k }) i)
-answer_in _ = None
+task_message_in _ = None
 
 -- sA.K or tA.K.I
 unfoldable pub message_of : List ℕ → Option MsgId
 message_of [] = None
-message_of (b ∷ numbers) = if b == 115 then script_in (pieces 46 numbers) else if b == 116 then answer_in (pieces 46 numbers) else None
+message_of (b ∷ numbers) = if b == 115 then script_in (pieces 46 numbers) else if b == 116 then task_message_in (pieces 46 numbers) else None
 
 -- the spot of this word and site, where the word is a name
 abbrev pub spot_with : List ℕ → Option ℕ → Option SpotName

@@ -4,7 +4,7 @@ ghost use Rattle.std.specs.Prelude.{◌≡◌, Some, None, IfSome, IfNone};
 ghost use Rattle.std.specs.Option.{option_map};
 ghost use Rattle.ccr_base.specs.Bounds.{most_value_numbers};
 ghost use Rattle.ccr_trace.specs.Forms.{field};
-ghost use Rattle.ccr_trace.specs.Fields.{exact_number, short_number, values_in, value_of, task_in, task_of, script_in, answer_in, message_of, spot_with, spot_of};
+ghost use Rattle.ccr_trace.specs.Fields.{exact_number, short_number, values_in, value_of, task_in, task_of, script_in, task_message_in, message_of, spot_with, spot_of};
 
 use crate::pieces::Pieces;
 use ccr_base::{MAX_VALUE_NUMBERS, MsgId, TaskId, Value};
@@ -123,9 +123,9 @@ fn script_in(mut numbers: Pieces<'_>) -> Option<MsgId>
 }
 
 /// A.K.I
-#[tactic(auto, using(crate::proofs::Firsts::answer_steps))]
-fn answer_in(mut numbers: Pieces<'_>) -> Option<MsgId>
-    ensures { result ≡ answer_in numbers.entry }
+#[tactic(auto, using(crate::proofs::Firsts::task_message_steps))]
+fn task_message_in(mut numbers: Pieces<'_>) -> Option<MsgId>
+    ensures { result ≡ task_message_in numbers.entry }
 {
     let actor = short_in(&mut numbers)?;
     let attempt = short_in(&mut numbers)?;
@@ -148,7 +148,7 @@ pub fn message_of(word: &[u8]) -> Option<MsgId>
     let numbers = Pieces::new(b'.', numbers);
     match *first {
         b's' => script_in(numbers),
-        b't' => answer_in(numbers),
+        b't' => task_message_in(numbers),
         _ => None,
     }
 }

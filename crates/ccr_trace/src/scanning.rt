@@ -48,7 +48,7 @@ fn script_before(bytes: &[u8]) -> Option<(MsgId, Option<&[u8]>)>
 }
 
 /// tA.K.I
-fn answer_before(bytes: &[u8]) -> Option<(MsgId, Option<&[u8]>)>
+fn task_message_before(bytes: &[u8]) -> Option<(MsgId, Option<&[u8]>)>
     ensures { IfSome result (λ found. field message_of (pieces 32 bytes.now) ≡ Some (found.0, option_map_or (λ rest. pieces 32 rest.now) found.1 [])) }
 {
     let (first, numbers) = bytes.split_first()?;
@@ -69,5 +69,5 @@ pub fn message_before(bytes: &[u8]) -> Option<(MsgId, Option<&[u8]>)>
     if let Some(found) = script_before(bytes) {
         return Some(found);
     }
-    answer_before(bytes)
+    task_message_before(bytes)
 }

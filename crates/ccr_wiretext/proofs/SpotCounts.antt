@@ -1,7 +1,7 @@
 -- The ports that the spots name.
-use Rattle.std.proofs.Common.{◌≡◌, ℕ, zero, suc, ◌+◌, ◌<◌, ◌≤◌, Bool, true, false, List, [], ◌∷◌, ◌++◌, length, refl, sym, ap, ◌∙◌, arith}
+use Rattle.std.proofs.Common.{◌≡◌, ℕ, ◌+◌, ◌<◌, ◌≤◌, Bool, true, false, List, [], ◌∷◌, ◌++◌, length, refl, sym, ap, ◌∙◌, arith}
 use Rattle.std.specs.Prelude.{◌==◌, ◌||◌, nat_lt}
-use Rattle.std.specs.List.{list_any, slice_get}
+use Rattle.std.specs.List.{list_any}
 use Rattle.std.proofs.lemmas.Bool.Decides.{nat_tests}
 use Rattle.ccr_wiring.proofs.Crowds.{times_append}
 use Rattle.ccr_wiring.specs.declared.parts.Parts.{Parts}
@@ -15,6 +15,7 @@ use Rattle.ccr_wiretext.specs.Drafts.{Declared}
 use Rattle.ccr_wiretext.specs.Forms.{crowds}
 use Rattle.ccr_wiretext.proofs.Each.{neither}
 use Rattle.ccr_base.specs.Lists.{Each}
+use Rattle.ccr_base.proofs.Options.{get-before}
 use Rattle.ccr_wiretext.proofs.Fit.{BranchFit, ArbiterFit}
 
 -- the ports that an arbiter's spots name
@@ -23,14 +24,9 @@ arbiter_named parts part = branches_named parts part.branches
 
 -- ---- handlers behind those that a branch refers to change nothing
 
-get_front : (xs : List HandlerPart) (x : HandlerPart) (k : ℕ) → k < length xs → slice_get (xs ++ x ∷ []) k ≡ slice_get xs k
-get_front [] x k less = absurd (omega arith)
-get_front (y ∷ ys) x zero less = refl
-get_front (y ∷ ys) x (suc k) less = get_front ys x k (omega arith)
-
 branch_same : (parts : Parts) (part : HandlerPart) (branch : BranchPart) → branch.handler < length parts.handlers
     → branch_named (record parts { handlers = parts.handlers ++ part ∷ [] }) branch ≡ branch_named parts branch
-branch_same parts part branch less = rw (get_front parts.handlers part branch.handler less) refl
+branch_same parts part branch less = rw (get-before parts.handlers part branch.handler less) refl
 
 branches_same : (queues ports : ℕ) (kind : Kind) (parts : Parts) (part : HandlerPart) (branches : List BranchPart)
     → Each (λ (branch : BranchPart). BranchFit queues (length parts.handlers) ports branch × (may_have kind branch.group ≡ true)) branches

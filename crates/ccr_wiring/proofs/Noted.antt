@@ -9,6 +9,7 @@ use Rattle.ccr_base.specs.declared.names.Spot.{Spot}
 use Rattle.ccr_base.specs.declared.patterns.Slot.{Slot}
 use Rattle.ccr_base.proofs.Booleans.{and_false, or_assoc}
 use Rattle.ccr_base.specs.Lists.{has_number, are_apart}
+use Rattle.ccr_base.proofs.Options.{some-below}
 use Rattle.ccr_wiring.specs.Repeats.{slot_ports}
 use Rattle.ccr_wiring.specs.Takers.{more_for, IsNoted}
 
@@ -42,13 +43,8 @@ noted_one lists k spot d now within more = record {
 pub noted_none : (test : ℕ → Bool) (spot : Spot) (lists : List (List Spot)) → ((n : ℕ) → n < length lists → test n ≡ false) → IsNoted test spot lists lists
 noted_none test spot lists never = record {
   size = refl;
-  each = λ n list there. there ∙ ap Some (sym (append-nil list) ∙ ap (λ b. list ++ (if b then spot ∷ [] else [])) (sym (never n (within lists n list there))));
+  each = λ n list there. there ∙ ap Some (sym (append-nil list) ∙ ap (λ b. list ++ (if b then spot ∷ [] else [])) (sym (never n (some-below lists n list there))));
 }
-  where
-    within : (lists : List (List Spot)) (n : ℕ) (list : List Spot) → slice_get lists n ≡ Some list → n < length lists
-    within [] n list there = grind (arith, there)
-    within (other ∷ lists) zero list there = omega arith
-    within (other ∷ lists) (suc n) list there = let low = within lists n list there in omega (arith, low)
 
 pub noted_past : (lists : List (List Spot)) (k : ℕ) (spot : Spot) → length lists ≤ k → IsNoted (λ n. k == n) spot lists lists
 noted_past lists k spot past = noted_none (λ n. k == n) spot lists (λ n low. grind (arith, nat_tests, low, past))

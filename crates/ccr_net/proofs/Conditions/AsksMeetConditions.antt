@@ -1,5 +1,5 @@
 -- Each ask of a run meets the condition of its place.
-use Rattle.std.proofs.Common.{inl, inr, ◌≡◌, ◌≢◌, ◌≤◌, ◌<◌, ℕ, zero, suc, ◌+◌, ◌^◌, true, false, List, [], ◌∷◌, length, Option, Some, None, refl, sym, arith, ap, ◌∙◌, subst}
+use Rattle.std.proofs.Common.{inl, inr, ◌≡◌, ◌≢◌, ◌≤◌, ◌<◌, ℕ, ◌+◌, ◌^◌, true, false, List, [], ◌∷◌, length, Option, Some, None, refl, sym, arith, ap, ◌∙◌, subst}
 use Rattle.std.specs.Prelude.{is_some, ◌==◌, nat_lt, nat_le}
 use Rattle.std.specs.List.{slice_get}
 use Rattle.std.specs.Option.{option_map_or}
@@ -28,7 +28,8 @@ use Rattle.ccr_model.specs.Firings.{fired}
 use Rattle.ccr_base.proofs.Booleans.{eq-self, or_left, refuted}
 use Rattle.ccr_model.proofs.Members.{Among, Among-left}
 use Rattle.ccr_model.proofs.Roots.{running_works}
-use Rattle.ccr_model.proofs.SameNames.{same_task-is, same_task-self}
+use Rattle.ccr_base.proofs.SameNames.{same_task-is, same_task-self}
+use Rattle.ccr_base.proofs.Options.{some-below}
 use Rattle.ccr_places.specs.declared.claims.StandingClaim.{StandingClaim}
 use Rattle.ccr_places.specs.declared.notes.Note.{Note}
 use Rattle.ccr_places.specs.Ports.{is_claimed_by}
@@ -45,7 +46,7 @@ use Rattle.ccr_wiring.specs.Groups.{is_interleave}
 use Rattle.ccr_actor.specs.Actors.{State, Turn, settle, admit, drive, go_on, stop, Work, lines, round, taking, playing, posting, shedding, resting, turn, ask_in, spots_left, name_at, work_ask, play_ask, end_ask, next}
 use Rattle.ccr_runs.specs.declared.entries.Entry.{Entry}
 use Rattle.ccr_runs.specs.Places.{note_of, note_at_arbiter, note_by_kind, port_after}
-use Rattle.ccr_runs.specs.EntryRuns.{IsRunAfter, Lacks, notes_at, replies_of, state_of, port_at}
+use Rattle.ccr_runs.specs.EntryRuns.{IsRunAfter, Lacks, notes_at, replies_of, state_of, port_at, queue_at}
 use Rattle.ccr_runs.specs.Visible.{visible}
 use Rattle.ccr_net.proofs.Parts.StepsKeepActors.{unfired}
 use Rattle.ccr_net.proofs.Kept.WholeInvariant.{meter_at, hand_settles, domains_admit, spots_drive}
@@ -53,7 +54,6 @@ use Rattle.ccr_net.proofs.Parts.MeterMatches.{bit, count-some}
 use Rattle.ccr_net.proofs.Parts.PhasesFitPlans.{PhaseFits, Fits, SpotFits}
 use Rattle.ccr_net.proofs.Kept.WhatWiringsHave.{PlainFacts}
 use Rattle.ccr_net.proofs.Kept.ValidWiringsArePlain.{plain_facts}
-use Rattle.ccr_net.proofs.Parts.OneMoreEntry.{queue_at}
 use Rattle.ccr_net.proofs.Parts.TasksStartOnce.{runs}
 use Rattle.ccr_net.proofs.Parts.WorkMatches.{WorkMatches, RunsTask}
 use Rattle.ccr_net.proofs.Owed.EntriesAreMoves.{spots_of_left}
@@ -287,14 +287,9 @@ module _ (w : Parts) (valid : IsValid w) (n : ℕ) (lacks : Lacks) (es : List En
   leave_met : (index : ℕ) → st.work ≡ lines index [] → WorkMatches w (visible es) a (lines index []) → Met (at_place places.Meter asks.Leave)
   leave_met index work match = is_given _ _ (let few = below in grind (arith, nat_tests, few))
     where
-      in_range : {X : Type 0} (xs : List X) (k : ℕ) (x : X) → slice_get xs k ≡ Some x → k < length xs
-      in_range [] k x at = absurd (cc)
-      in_range (y ∷ xs) zero x at = omega arith
-      in_range (y ∷ xs) (suc k) x at = let rest = in_range xs k x at in omega (arith, rest)
-
       below : (meter_at w es).left < 16
       below =
-          let some = count-some (length w.posters) a (scripted w lacks es) (in_range w.posters a match.poster match.is_poster) (rw work refl) in
+          let some = count-some (length w.posters) a (scripted w lacks es) (some-below w.posters a match.poster match.is_poster) (rw work refl) in
           let left = ready.left in
           let posters = all.small.posters in
           omega (arith, some, left, posters)

@@ -33,17 +33,18 @@ use Rattle.ccr_places.specs.Interleaves.{InterleaveState}
 use Rattle.ccr_places.specs.Interleaves as interleaves
 use Rattle.ccr_places.specs.Sites.{SiteState}
 use Rattle.ccr_places.specs.Sites as sites
+use Rattle.ccr_places.specs.NotedTasks.{noted_fired}
 use Rattle.ccr_claim.specs.declared.asks.Ask.TheVariants as asks
 use Rattle.ccr_claim.specs.Plans.{names_of, firing_task}
 use Rattle.ccr_claim.specs.Attempts.{commit_ask}
 use Rattle.ccr_actor.specs.Plans.{plan_of, is_interleave_number}
 use Rattle.ccr_runs.specs.declared.entries.Entry.{Entry}
 use Rattle.ccr_runs.specs.Places.{note_of, note_at_arbiter, note_by_kind, given, first_branch, arbiter_after, interleave_after, site_after}
-use Rattle.ccr_runs.specs.EntryRuns.{Lacks, notes_at, note_at, same_place}
+use Rattle.ccr_runs.specs.EntryRuns.{Lacks, notes_at, note_at, same_place, domain_at}
 use Rattle.ccr_runs.specs.Visible.{visible, event_of, shown}
-use Rattle.ccr_net.proofs.Parts.ArbitersMatch.{fired_there, fired_note, kept_shape, none_at_first, KeepsShape}
+use Rattle.ccr_net.proofs.Parts.ArbitersMatch.{fired_there, kept_shape, none_at_first, KeepsShape}
 use Rattle.ccr_net.proofs.Kept.WholeInvariant.{Holds}
-use Rattle.ccr_net.proofs.Parts.DomainsMatch.{domain_at, group_so}
+use Rattle.ccr_net.proofs.Parts.DomainsMatch.{group_so}
 use Rattle.ccr_net.proofs.Parts.PhasesFitPlans.{SpotFits}
 use Rattle.ccr_net.proofs.Conditions.BranchesHavePositions.{branch_position}
 
@@ -53,7 +54,7 @@ is_given false note is = absurd (cc)
 
 -- ---- who fired by the notes of a place fired
 
-shows_fired : (a : ℕ) (note : Note) (t : TaskId) → has_task (fired_note note) t ≡ true → has_task (fired (shown a note)) t ≡ true
+shows_fired : (a : ℕ) (note : Note) (t : TaskId) → has_task (noted_fired note) t ≡ true → has_task (fired (shown a note)) t ≡ true
 shows_fired a (notes.Fired u s ms cs) t is = is
 shows_fired a (notes.Post m) t is = absurd (cc)
 shows_fired a (notes.Claim u s r) t is = absurd (cc)
@@ -71,23 +72,23 @@ shows_fired a (notes.Draw n) t is = absurd (cc)
 shows_fired a notes.Leave t is = absurd (cc)
 shows_fired a (notes.Left n) t is = absurd (cc)
 
-noted_fired : (es : List Entry) (place : Place) (t : TaskId) → has_task (fired_there (notes_at es place)) t ≡ true → has_task (fired (visible es)) t ≡ true
-noted_fired [] place t is = absurd (cc)
-noted_fired (e ∷ es) place t is = subst (λ ts. has_task ts t ≡ true) (sym (fired-append (event_of e) (visible es))) (of_more (fired_there (note_at place e)) (fired_there (notes_at es place)) t _ (subst (λ ts. has_task ts t ≡ true) (split (note_at place e) (notes_at es place)) is) (λ now. among_left (fired (event_of e)) (fired (visible es)) t (here (same_place e.place place) now)) (λ now. among_right (fired (event_of e)) (fired (visible es)) t (noted_fired es place t now)))
+noted_has_fired : (es : List Entry) (place : Place) (t : TaskId) → has_task (fired_there (notes_at es place)) t ≡ true → has_task (fired (visible es)) t ≡ true
+noted_has_fired [] place t is = absurd (cc)
+noted_has_fired (e ∷ es) place t is = subst (λ ts. has_task ts t ≡ true) (sym (fired-append (event_of e) (visible es))) (of_more (fired_there (note_at place e)) (fired_there (notes_at es place)) t _ (subst (λ ts. has_task ts t ≡ true) (split (note_at place e) (notes_at es place)) is) (λ now. among_left (fired (event_of e)) (fired (visible es)) t (here (same_place e.place place) now)) (λ now. among_right (fired (event_of e)) (fired (visible es)) t (noted_has_fired es place t now)))
   where
     split : (xs ys : List Note) → fired_there (xs ++ ys) ≡ fired_there xs ++ fired_there ys
     split xs ys = grind (arith, common_steps)
 
     here : (b : Bool) → has_task (fired_there (if b then e.note ∷ [] else [])) t ≡ true → has_task (fired (event_of e)) t ≡ true
-    here true now = shows_fired e.actor e.note t (subst (λ ts. has_task ts t ≡ true) (append-nil (fired_note e.note)) now)
+    here true now = shows_fired e.actor e.note t (subst (λ ts. has_task ts t ≡ true) (append-nil (noted_fired e.note)) now)
     here false now = absurd (cc)
 
 new_there : (es : List Entry) (place : Place) (t : TaskId) → has_task (fired (visible es)) t ≡ false → has_task (fired_there (notes_at es place)) t ≡ false
-new_there es place t new = refuted (has_task (fired_there (notes_at es place)) t) (λ is. no_both (noted_fired es place t is) new)
+new_there es place t new = refuted (has_task (fired_there (notes_at es place)) t) (λ is. no_both (noted_has_fired es place t is) new)
 
 -- ---- what a domain and a site keep of them
 
-domain_fired : (st : InterleaveState) (note : Note) → (interleaves.after st note).fired ≡ st.fired ++ fired_note note
+domain_fired : (st : InterleaveState) (note : Note) → (interleaves.after st note).fired ≡ st.fired ++ noted_fired note
 domain_fired st (notes.Fired u s ms cs) = refl
 domain_fired st (notes.Admit None) = sym (append-nil st.fired)
 domain_fired st (notes.Admit (Some u)) = by (slice_get st.waiting 0) refl ∙ sym (append-nil st.fired)
@@ -112,9 +113,9 @@ domain_fired st (notes.Left n) = sym (append-nil st.fired)
 
 domain_fired_all : (st : InterleaveState) (earlier : List Note) → (interleaves.kept st earlier).fired ≡ st.fired ++ fired_there earlier
 domain_fired_all st [] = sym (append-nil st.fired)
-domain_fired_all st (note ∷ earlier) = domain_fired_all (interleaves.after st note) earlier ∙ ap (λ ts. ts ++ fired_there earlier) (domain_fired st note) ∙ append_assoc st.fired (fired_note note) (fired_there earlier)
+domain_fired_all st (note ∷ earlier) = domain_fired_all (interleaves.after st note) earlier ∙ ap (λ ts. ts ++ fired_there earlier) (domain_fired st note) ∙ append_assoc st.fired (noted_fired note) (fired_there earlier)
 
-site_fired : (st : SiteState) (note : Note) → (sites.after st note).fired ≡ st.fired ++ fired_note note
+site_fired : (st : SiteState) (note : Note) → (sites.after st note).fired ≡ st.fired ++ noted_fired note
 site_fired st (notes.Fired u s ms cs) = refl
 site_fired st (notes.Post m) = sym (append-nil st.fired)
 site_fired st (notes.Claim u s r) = sym (append-nil st.fired)
@@ -134,7 +135,7 @@ site_fired st (notes.Left n) = sym (append-nil st.fired)
 
 site_fired_all : (st : SiteState) (earlier : List Note) → (sites.kept st earlier).fired ≡ st.fired ++ fired_there earlier
 site_fired_all st [] = sym (append-nil st.fired)
-site_fired_all st (note ∷ earlier) = site_fired_all (sites.after st note) earlier ∙ ap (λ ts. ts ++ fired_there earlier) (site_fired st note) ∙ append_assoc st.fired (fired_note note) (fired_there earlier)
+site_fired_all st (note ∷ earlier) = site_fired_all (sites.after st note) earlier ∙ ap (λ ts. ts ++ fired_there earlier) (site_fired st note) ∙ append_assoc st.fired (noted_fired note) (fired_there earlier)
 
 site_shape : (b k : ℕ) (earlier : List Note) → ((site_after b k earlier).branch ≡ b) × ((site_after b k earlier).site ≡ k)
 site_shape b k earlier = shaped (sites.start b k) earlier

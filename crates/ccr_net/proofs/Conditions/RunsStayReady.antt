@@ -8,12 +8,13 @@ use Rattle.ccr_wiring.specs.declared.parts.Parts.{Parts}
 use Rattle.ccr_wiring.specs.Valid.{HasDomains}
 use Rattle.ccr_claim.specs.declared.asks.Ask.{Ask}
 use Rattle.ccr_actor.specs.Actors.{State}
+use Rattle.ccr_actor.specs.Courses.{owing}
 use Rattle.ccr_base.proofs.Booleans.{no_both}
 use Rattle.ccr_model.proofs.Members.{Among}
 use Rattle.ccr_places.specs.TaskSets.{task_cmp}
 use Rattle.ccr_runs.specs.declared.entries.Entry.{Entry}
-use Rattle.ccr_runs.specs.EntryRuns.{IsRunAfter, Lacks, state_of}
-use Rattle.ccr_net.proofs.Parts.OneMoreEntry.{queue_at, along_run, Step, Step-made}
+use Rattle.ccr_runs.specs.EntryRuns.{IsRunAfter, Lacks, state_of, queue_at}
+use Rattle.ccr_net.proofs.Parts.OneMoreEntry.{along_run, Step, Step-made}
 use Rattle.ccr_net.proofs.Kept.WholeInvariant.{Holds, IsBegun, begins}
 use Rattle.ccr_net.proofs.Kept.WhatWiringsHave.{PlainFacts}
 use Rattle.ccr_net.proofs.Kept.RunsAreLegal.{Holds-begins}
@@ -27,7 +28,6 @@ use Rattle.ccr_net.proofs.Owed.OwedByOneOnce.{owed_by}
 use Rattle.ccr_net.proofs.Owed.OwedByOneOnce as owed
 use Rattle.ccr_net.proofs.Owed.OversMayBeNoted.{OversStand, overs_on, ends_root, may_over_at}
 use Rattle.ccr_net.proofs.Owed.OwedAtOwnPlaces.{AllPlaced, all_placed-kept, AllInterleaves, all_interleaves-kept}
-use Rattle.ccr_net.proofs.Owed.EntriesChangeOwing.{owing}
 use Rattle.ccr_net.proofs.Owed.PostsAreBounded.{FewItems, few_items-kept}
 use Rattle.ccr_net.proofs.Owed.AttemptNamesAreNew.{NamesReached, names_reached-kept, is_known}
 

@@ -21,7 +21,7 @@ use Rattle.ccr_model.proofs.Cutting.{CutFacts-legal, waits_unput}
 use Rattle.ccr_model.proofs.AllowedFirings.{waits_outside}
 use Rattle.ccr_model.proofs.LegalParts.{legal_push}
 use Rattle.ccr_model.proofs.OneMoreEvent.{posts-push, put-push, cut-push, ever_admitted-push}
-use Rattle.ccr_model.proofs.SameNames.{same_task-self}
+use Rattle.ccr_base.proofs.SameNames.{same_task-self}
 use Rattle.ccr_model.proofs.Stable.{firing_named-append}
 use Rattle.ccr_model.proofs.TaskLists.{of_one, among_right}
 use Rattle.ccr_model.proofs.Queued.{queued-other}
@@ -36,10 +36,10 @@ use Rattle.ccr_actor.specs.Plans.{is_interleave_number}
 use Rattle.ccr_actor.specs.Actors.{State, turn, turn_of, admit, strike, put_admitted, spots_left}
 use Rattle.ccr_runs.specs.declared.entries.Entry.{Entry}
 use Rattle.ccr_runs.specs.Places.{note_at_arbiter, note_by_kind}
-use Rattle.ccr_runs.specs.EntryRuns.{Lacks, state_of, port_at, notes_at}
+use Rattle.ccr_runs.specs.EntryRuns.{Lacks, state_of, port_at, notes_at, queue_at, domain_at}
 use Rattle.ccr_runs.specs.Views.{view}
 use Rattle.ccr_runs.specs.Visible.{visible}
-use Rattle.ccr_net.proofs.Parts.OneMoreEntry.{visible-push, queue_at, Step}
+use Rattle.ccr_net.proofs.Parts.OneMoreEntry.{visible-push, Step}
 use Rattle.ccr_net.proofs.Parts.PortsAndHandsMatch.{IsToPut, puts_in}
 use Rattle.ccr_net.proofs.Parts.StepsKeepPorts.{PortsMatch-event}
 use Rattle.ccr_net.proofs.Parts.StepsKeepActors.{ActorMatches-same, ActorMatches-history, ActorMatches-admit, puts_owed, stays_quiet}
@@ -48,13 +48,13 @@ use Rattle.ccr_net.proofs.Parts.ArbitersMatch.{ArbitersMatch-push, FiresAlike-ot
 use Rattle.ccr_net.proofs.Parts.BookedHasRoom.{QueuesHold-event}
 use Rattle.ccr_net.proofs.Parts.WorkMatches.{WorkMatches-same, SaysSame, quiet_says}
 use Rattle.ccr_net.proofs.Parts.MeterMatches.{MeterMatches-quiet}
-use Rattle.ccr_net.proofs.Parts.DomainsMatch.{Oldest, oldest, admit_allowed, domain_at, DomainsMatch-admit, DomainsMatch-still}
+use Rattle.ccr_net.proofs.Parts.DomainsMatch.{Oldest, oldest, admit_allowed, DomainsMatch-admit, DomainsMatch-still}
 use Rattle.ccr_net.proofs.Kept.WholeInvariant.{ActorHolds, Holds, Holds-kept, meter_at, works_of, same_under_way, same_ports, same_queues, same_meter}
 use Rattle.ccr_net.proofs.Kept.SilentStepsKeepAll.{silent_else, unmetered}
 use Rattle.ccr_net.proofs.Kept.ShownStepsKeepAll.{ActorHolds-event}
 use Rattle.ccr_net.proofs.Parts.NotesAnswerAsks.{Given, given_to}
 
-hand_admits : (short : Bool) (hand : List Asked) (domains : List ℕ) (spots : List Spot) (i : ℕ) (more : List ℕ) → turn_of short hand domains spots ≡ admit i more → hand ≡ []
+pub hand_admits : (short : Bool) (hand : List Asked) (domains : List ℕ) (spots : List Spot) (i : ℕ) (more : List ℕ) → turn_of short hand domains spots ≡ admit i more → hand ≡ []
 hand_admits short (y ∷ hand) domains spots i more is = absurd (cc)
 hand_admits short [] domains spots i more is = refl
 

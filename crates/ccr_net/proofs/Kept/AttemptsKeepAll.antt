@@ -30,7 +30,7 @@ use Rattle.ccr_model.specs.Sites.{suspended}
 use Rattle.ccr_model.specs.Live.{is_live, is_live_in, is_none_of}
 use Rattle.ccr_model.specs.Interleaves.{is_placement_in}
 use Rattle.ccr_model.specs.Rules.{cuts_at}
-use Rattle.ccr_model.specs.Tasks.{is_interleave, is_teardown, fired_by}
+use Rattle.ccr_model.specs.Tasks.{is_interleave, fired_by}
 use Rattle.ccr_wiring.specs.Groups.{may_have}
 use Rattle.ccr_base.specs.declared.policies.Group.{Group}
 use Rattle.ccr_base.specs.declared.policies.Group.TheVariants as groups
@@ -40,6 +40,7 @@ use Rattle.ccr_places.specs.Interleaves as interleaves
 use Rattle.ccr_base.proofs.Booleans.{both, same_number, eq-self, not_false}
 use Rattle.ccr_base.proofs.Options.{none_map, no_some}
 use Rattle.ccr_model.proofs.Members.{Among}
+use Rattle.ccr_model.proofs.Cutting.{no_teardown_outside}
 use Rattle.ccr_places.specs.declared.claims.StandingClaim.{StandingClaim}
 use Rattle.ccr_places.specs.declared.notes.ClaimNote.TheVariants.{Got, Busy, Short}
 use Rattle.ccr_places.specs.declared.notes.Note.{Note}
@@ -62,16 +63,16 @@ use Rattle.ccr_actor.specs.Plans.{one_of, no_pattern, plan_of, pattern_at, is_in
 use Rattle.ccr_actor.specs.Actors.{State, settle, drive, turn, name_at, spots_left}
 use Rattle.ccr_runs.specs.declared.entries.Entry.{Entry}
 use Rattle.ccr_runs.specs.Places.{note_of, note_at_arbiter, note_by_kind, arbiter_note, interleave_note, first_branch, arbiter_after, commit_note}
-use Rattle.ccr_runs.specs.EntryRuns.{Lacks, state_of, port_at, notes_at}
+use Rattle.ccr_runs.specs.EntryRuns.{Lacks, state_of, port_at, notes_at, queue_at, site_at, domain_at}
 use Rattle.ccr_runs.specs.Views.{queue_of}
 use Rattle.ccr_runs.specs.Visible.{visible}
-use Rattle.ccr_net.proofs.Parts.OneMoreEntry.{queue_at, Step}
+use Rattle.ccr_net.proofs.Parts.OneMoreEntry.{Step}
 use Rattle.ccr_net.proofs.Parts.PortsAndHandsMatch.{IsOwed, put_in}
 use Rattle.ccr_net.proofs.Parts.StepsKeepActors.{unfired}
-use Rattle.ccr_net.proofs.Parts.SitesMatch.{site_at, SitesMatch-branch, SitesMatch-resume, someone_waits}
+use Rattle.ccr_net.proofs.Parts.SitesMatch.{SitesMatch-branch, SitesMatch-resume, someone_waits}
 use Rattle.ccr_net.proofs.Parts.ArbitersMatch.{FiresAlike-fire, FiresAlike-resume, KeepsShape, kept_shape, fired_there, is_of, none_fired, none_at_branch, none_at_first}
 use Rattle.ccr_net.proofs.Parts.BookedHasRoom.{IsBookedAt, has_room-left}
-use Rattle.ccr_net.proofs.Parts.DomainsMatch.{DomainMatches, DomainsMatch, domain_at, tears, cuts_so, DomainsMatch-branch, DomainsMatch-fire, DomainsMatch-resume}
+use Rattle.ccr_net.proofs.Parts.DomainsMatch.{DomainMatches, DomainsMatch, tears, cuts_so, DomainsMatch-branch, DomainsMatch-fire, DomainsMatch-resume}
 use Rattle.ccr_net.proofs.Parts.PhasesFitPlans.{SpotFits, Fits}
 use Rattle.ccr_net.proofs.Kept.WholeInvariant.{ActorHolds, Holds, hand_settles}
 use Rattle.ccr_net.proofs.Kept.SilentStepsKeepAll.{step_consume, step_free, step_unbook, step_over, step_full, step_booked, step_refused, step_dead, step_dead_site, step_got, claims_by, drives, got_facts, GotFacts}
@@ -230,17 +231,6 @@ module _ (w : Parts) (n : ℕ) (first : PlainFacts w) (few : n ≤ 33) (lacks : 
       note : e.note ≡ notes.Fired (name_at e.actor before) (Branch b) names cs
       note = had_note ∙ ap (λ ms. notes.Fired (name_at e.actor before) (Branch b) (names_of ms) cs) ((λ q. in_pattern (sym pattern q) had) ∙ ap (in_pattern (pattern_at w (Branch b))) (sym (ap had_in phase)))
 
-  -- outside Interleaves nothing is cut
-  no_teardown_in : (kind : Kind) (group : Group) → is_interleave kind ≡ false → may_have kind group ≡ true → is_teardown group ≡ false
-  no_teardown_in kind groups.Once outside may = refl
-  no_teardown_in kind groups.Always outside may = refl
-  no_teardown_in kind groups.Choice outside may = refl
-  no_teardown_in kind groups.Exclusive outside may = refl
-  no_teardown_in kind groups.Concurrent outside may = refl
-  no_teardown_in kinds.Receive groups.Teardown outside may = absurd (cc)
-  no_teardown_in kinds.Choice groups.Teardown outside may = absurd (cc)
-  no_teardown_in kinds.Interleave groups.Teardown outside may = absurd (cc)
-
   -- the commit at a receiver or a choice
   commit_arbiter : (b : ℕ) (s : Placement) (more : List Spot) (had : List Had) (i : ℕ) (part : ArbiterPart) → placement w b ≡ Some s → s.domain ≡ i → slice_get w.arbiters i ≡ Some part → is_interleave s.kind ≡ false → is_interleave_number w i ≡ false → turn before ≡ drive (Branch b) more → before.phase ≡ claiming [] had → Fits s.branch.pattern [] had → e.place ≡ places.Arbiter i → arbiter_note (arbiter_after (first_branch w i) part (notes_at es (places.Arbiter i))) (asks.Commit (firing_task (plan_of w (Branch b)) (name_at e.actor before) (in_pattern s.branch.pattern had)) (names_of (in_pattern s.branch.pattern had))) ≡ Some e.note → Done
   commit_arbiter b s more had i part sits at_its there_part outside plain turns phase fits there gives = by_dead (arbiters.dead_by arbiter) refl
@@ -278,7 +268,7 @@ module _ (w : Parts) (n : ℕ) (first : PlainFacts w) (few : n ≤ 33) (lacks : 
       noted o is = given_so.1 ∙ ap (λ x. commit_note task (names_of (in_pattern s.branch.pattern had)) x (notes.Fired task.id task.spot (names_of (in_pattern s.branch.pattern had)) [])) is
 
       by_dead : (o : Option By) → arbiters.dead_by arbiter ≡ o → Done
-      by_dead None is = fires_branch b s more had i [] sits at_its turns phase fits there (live is) (sym (rw (sits, no_teardown_in s.kind s.branch.group outside (first.groups_so b s sits)) refl)) (noted None is) (λ ms allowed note. DomainsMatch-branch w h es e (name_at e.actor before) b i s ms holds.legal allowed sits at_its plain there note holds.domains)
+      by_dead None is = fires_branch b s more had i [] sits at_its turns phase fits there (live is) (sym (rw (sits, no_teardown_outside s.kind s.branch.group (first.groups_so b s sits) outside) refl)) (noted None is) (λ ms allowed note. DomainsMatch-branch w h es e (name_at e.actor before) b i s ms holds.legal allowed sits at_its plain there note holds.domains)
       by_dead (Some by) is = step_dead w n lacks es e low holds i (Branch b) more (name_at e.actor before) (Branch b) by there (noted (Some by) is) turns (rw (turns, noted (Some by) is) refl)
 
   -- the commit at an Interleave

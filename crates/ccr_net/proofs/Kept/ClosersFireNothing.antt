@@ -11,7 +11,7 @@ use Rattle.ccr_wiring.proofs.Soundness.{sound}
 use Rattle.ccr_model.specs.Firings.{fired}
 use Rattle.ccr_model.specs.Order.{next_attempt}
 use Rattle.ccr_base.proofs.Booleans.{same_number}
-use Rattle.ccr_model.proofs.SameNames.{same_task-self}
+use Rattle.ccr_base.proofs.SameNames.{same_task-self}
 use Rattle.ccr_actor.specs.Actors.{State, state_after}
 use Rattle.ccr_runs.specs.declared.entries.Entry.{Entry}
 use Rattle.ccr_runs.specs.EntryRuns.{Lacks, IsRun, IsRunAfter, replies_from, state_of}

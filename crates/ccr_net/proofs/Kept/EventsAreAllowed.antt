@@ -27,7 +27,7 @@ use Rattle.ccr_model.specs.Rules.{is_new, cuts_at, is_script_line, is_play_post,
 use Rattle.ccr_model.specs.TaskData.{placement_of, play_of}
 use Rattle.ccr_model.specs.Tasks.{queued, running, running_by, has_post_left, count_unfinished}
 use Rattle.ccr_base.proofs.Booleans.{eq-self}
-use Rattle.ccr_model.proofs.SameNames.{same_task-self, same_value-self}
+use Rattle.ccr_base.proofs.SameNames.{same_task-self, same_value-self}
 use Rattle.ccr_model.proofs.Allowing.{same_option-self}
 use Rattle.ccr_net.proofs.Parts.PortsAndHandsMatch.{IsToPut}
 pub use Rattle.ccr_model.proofs.Allowing.{passed as refused_pass}

@@ -38,13 +38,14 @@ use Rattle.ccr_model.proofs.Members.{Among, Among-kept}
 use Rattle.ccr_base.proofs.Options.{some_of}
 use Rattle.ccr_model.proofs.PostNames.{AreNamed}
 use Rattle.ccr_model.proofs.OneMoreEvent.{posts-push, put-push, cut-push}
-use Rattle.ccr_model.proofs.SameNames.{same_task-self}
+use Rattle.ccr_base.proofs.SameNames.{same_task-self}
 use Rattle.ccr_model.proofs.TaskSteps.{queued-fire}
 use Rattle.ccr_model.proofs.FiringPlacements.{firing_with_placement}
 use Rattle.ccr_model.proofs.TaskLists.{without-append, has_oldest, among_left, among_right, not_more, of_one}
 use Rattle.ccr_model.proofs.WhoWasPut.{ArePlaced-legal, QueuedFacts, QueuedFacts-queued}
 use Rattle.ccr_places.specs.declared.notes.Note.TheVariants as notes
 use Rattle.ccr_places.specs.Queues as queues
+use Rattle.ccr_places.specs.Queues.{queued_task}
 use Rattle.ccr_claim.specs.declared.asks.Reply.TheVariants as replies
 use Rattle.ccr_claim.specs.declared.plan.Had.{Had}
 use Rattle.ccr_claim.specs.Plans.{any_slot, had_at, ports_in, in_pattern, names_of}
@@ -54,10 +55,10 @@ use Rattle.ccr_wiring.specs.Takers.{is_for as is_branch_for}
 use Rattle.ccr_actor.specs.Plans.{pattern_at, one_of, throttled}
 use Rattle.ccr_actor.specs.Actors.{State, round, playing, resting, turn, settle, drive, go_on, after_in, name_at, spots_left, fire, begin_play, play_in, after_over, next_round, driving, settled, admit_too}
 use Rattle.ccr_runs.specs.declared.entries.Entry.{Entry}
-use Rattle.ccr_runs.specs.EntryRuns.{Lacks, state_of, port_at, notes_at, reply_of, reply_to, waits}
+use Rattle.ccr_runs.specs.EntryRuns.{Lacks, state_of, port_at, notes_at, reply_of, reply_to, waits, queue_at}
 use Rattle.ccr_runs.specs.Views.{view, cut_view, queue_of}
 use Rattle.ccr_runs.specs.Visible.{visible, event_of, shown}
-use Rattle.ccr_net.proofs.Parts.OneMoreEntry.{visible-push, queue_at}
+use Rattle.ccr_net.proofs.Parts.OneMoreEntry.{visible-push}
 use Rattle.ccr_net.proofs.Parts.PortsAndHandsMatch.{ActorMatches, IsToPut, put_in, puts_in}
 use Rattle.ccr_net.proofs.Parts.PostsKeepMarks.{has_name}
 use Rattle.ccr_net.proofs.Parts.StepsKeepPorts.{PortsMatch-fire, PortsMatch-event, IsTouched}
@@ -65,10 +66,10 @@ use Rattle.ccr_net.proofs.Parts.StepsKeepActors.{ActorMatches-fire, ActorMatches
 use Rattle.ccr_net.proofs.Parts.GotNamesStandAlone.{touched, taken_there, found_member, had_at-is, held_had}
 use Rattle.ccr_net.proofs.Parts.SitesMatch.{SitesMatch, SitesMatch-other, SitesMatch-suspend}
 use Rattle.ccr_net.proofs.Parts.ArbitersMatch.{ArbitersMatch-push, FiresAlike, FiresAlike-other}
-use Rattle.ccr_net.proofs.Parts.QueuesMatch.{QueuesMatch-event, QueuesMatch-put, QueuesMatch-take, QueueChanges, drop_at-note, Takes, task_queued}
+use Rattle.ccr_net.proofs.Parts.QueuesMatch.{QueuesMatch-event, QueuesMatch-put, QueuesMatch-take, QueueChanges, drop_at-note, Takes}
 use Rattle.ccr_net.proofs.Parts.BookedHasRoom.{QueuesHold-event, BookingsMatch-event, BookingsMatch-fire, BookingsMatch-put, BookingsMatch-take, IsBooked, IsBookedAt-stays, Stays, Stays-note, Stays-put, is_for}
-use Rattle.ccr_net.proofs.Parts.TasksStartOnce.{starts, running_by-push, AreStarted-legal}
-use Rattle.ccr_net.proofs.Parts.WorkMatches.{WorkMatches, WorkMatches-same, SaysSame, RunsTask, Idle, quiet_says, start_says, end_says, running_by-end}
+use Rattle.ccr_net.proofs.Parts.TasksStartOnce.{AreStartedOnce-legal}
+use Rattle.ccr_net.proofs.Parts.WorkMatches.{WorkMatches, WorkMatches-same, SaysSame, RunsTask, Idle, quiet_says, start_says, end_says}
 use Rattle.ccr_net.proofs.Parts.MeterMatches.{MeterMatches-quiet, is_posting, is_shedding}
 use Rattle.ccr_net.proofs.Parts.PhasesFitPlans.{SpotFits, Fits, slot_had}
 use Rattle.ccr_net.proofs.Kept.WholeInvariant.{ActorHolds, Holds, Holds-kept, is_port_place, is_queue_place, is_meter_place, meter_at, works_of, queue_changes, same_under_way, same_stays, same_ports, same_queues, same_meter, hand_settles}
@@ -88,6 +89,7 @@ use Rattle.ccr_model.specs.Tasks.{is_over}
 use Rattle.ccr_model.proofs.FiredTasks.{root_stays}
 use Rattle.ccr_model.proofs.Queued.{queued-other, new_unput}
 use Rattle.ccr_model.proofs.Allowing.{first-self}
+use Rattle.ccr_model.proofs.RunningTasks.{starts, running_by-push, running_by-end}
 
 module _ (w : Parts) (n : ℕ) (first : PlainFacts w) (few : n ≤ 33) (lacks : Lacks) (es : List Entry) (e : Entry) (low : e.actor < n) (holds : Holds w n lacks es) where
   abbrev before : State
@@ -389,7 +391,7 @@ module _ (w : Parts) (n : ℕ) (first : PlainFacts w) (few : n ≤ 33) (lacks : 
       step_other w n lacks es e low holds event (places.Queue q) (begin_play w before q task) place (rw note refl) refl (same_ports es e (places.Queue q) place refl) turns goes
       (record { hand = refl; phase = refl; attempt = refl; spots_so = λ x is. throttled_fit (policy_of w q) x is })
       (rw (posts-push, append-nil) refl) taken_so fired_so (rw (put-push, append-nil) refl)
-      (start_allowed w h t e.actor its.0 (map task_queued found.others) its.1 (ap (queued w h) (same_number its.0.branch.queue q its.2) ∙ list) idle.worker (omega (arith, low, few)) idle.none)
+      (start_allowed w h t e.actor its.0 (map queued_task found.others) its.1 (ap (queued w h) (same_number its.0.branch.queue q its.2) ∙ list) idle.worker (omega (arith, low, few)) idle.none)
       (record {
         listed = QueuesMatch-take w h (queue_at w es) (queue_at w (es ++ e ∷ [])) q e.actor t holds.legal found changes holds.queues.listed;
         booked = BookingsMatch-event w h event (queue_at w (es ++ e ∷ [])) refl (BookingsMatch-take w h (queue_at w es) (queue_at w (es ++ e ∷ [])) q (Some t) changes holds.queues.booked);
@@ -417,11 +419,11 @@ module _ (w : Parts) (n : ℕ) (first : PlainFacts w) (few : n ≤ 33) (lacks : 
       throttled_fit (Discard k) x is = absurd is
       throttled_fit (Throttle k) x is = first.places_so x (Among-kept (is_branch_for w q) (spots w) x is)
 
-      list : queued w h q ≡ t ∷ map task_queued found.others
-      list = sym (holds.queues.listed.queued_so q) ∙ rw found.queued_so (ap (λ x. x ∷ map task_queued found.others) found.is_first)
+      list : queued w h q ≡ t ∷ map queued_task found.others
+      list = sym (holds.queues.listed.queued_so q) ∙ rw found.queued_so (ap (λ x. x ∷ map queued_task found.others) found.is_first)
 
       facts : QueuedFacts w h q t
-      facts = QueuedFacts-queued w h q t (has_oldest (queued w h q) (map task_queued found.others) t list)
+      facts = QueuedFacts-queued w h q t (has_oldest (queued w h q) (map queued_task found.others) t list)
 
       its : (s : Placement) × (placement_of w h t ≡ Some s) × ((s.branch.queue == q) ≡ true)
       its = some_of (λ (s : Placement). s.branch.queue == q) (placement_of w h t) facts.for_queue
@@ -439,7 +441,7 @@ module _ (w : Parts) (n : ℕ) (first : PlainFacts w) (few : n ≤ 33) (lacks : 
       taken_so = grind (arith, common_steps)
 
       not_ended : has_task (ended h) t ≡ false
-      not_ended = refuted (has_task (ended h) t) (λ is. no_both ((AreStarted-legal w h holds.legal).ended_so t is) facts.not_started)
+      not_ended = refuted (has_task (ended h) t) (λ is. no_both ((AreStartedOnce-legal w h holds.legal).ended_so t is) facts.not_started)
 
       alone : running_by (h ++ event ∷ []) e.actor ≡ t ∷ []
       alone = running_by-push h event e.actor ∙ rw (eq-self e.actor, append-nil (ended h), without-append (starts h e.actor) (t ∷ []) (ended h), not_ended) (ap (λ ts. ts ++ t ∷ []) idle.none)
@@ -457,7 +459,7 @@ module _ (w : Parts) (n : ℕ) (first : PlainFacts w) (few : n ≤ 33) (lacks : 
       (rw (same_queues w es e (places.Arbiter i) there refl) (QueuesHold-event w h event (queue_at w es) refl (λ q. queued-other w h q event refl refl refl refl) holds.queues))
       (same_stays w es e (places.Arbiter i) there refl (λ a. name_at a (state_of w lacks es a)))
       (rests (nat_lt before.taken 32768))
-      (λ a other. end_says h task.id how a e.actor (AreStarted-legal w h holds.legal) run.alone other)
+      (λ a other. end_says h task.id how a e.actor (AreStartedOnce-legal w h holds.legal) run.alone other)
       (same_meter w es e (places.Arbiter i) there refl)
       (λ works' one. MeterMatches-quiet w n h (h ++ event ∷ []) (meter_at w es).drawn e.actor (works_of w lacks es) works' (next_round before.taken) low (rw (posts-push, append-nil) refl) (unposted (nat_lt before.taken 32768) ∙ sym unposting) (λ shed. absurd (unshed (nat_lt before.taken 32768) shed)) one holds.meter)
       (SitesMatch-other w es e event holds.legal is refl last holds.sites)
@@ -506,7 +508,7 @@ module _ (w : Parts) (n : ℕ) (first : PlainFacts w) (few : n ≤ 33) (lacks : 
       (rw (same_queues w es e here there refl) (QueuesHold-event w h event (queue_at w es) refl (λ q. queued-other w h q event refl refl refl refl) holds.queues))
       (same_stays w es e here there refl (λ a. name_at a (state_of w lacks es a)))
       (rests (nat_lt before.taken 32768))
-      (λ a other. end_says h task.id ends.Yield a e.actor (AreStarted-legal w h holds.legal) run.alone other)
+      (λ a other. end_says h task.id ends.Yield a e.actor (AreStartedOnce-legal w h holds.legal) run.alone other)
       (same_meter w es e here there refl)
       (λ works' one. MeterMatches-quiet w n h (h ++ event ∷ []) (meter_at w es).drawn e.actor (works_of w lacks es) works' (next_round before.taken) low (rw (posts-push, append-nil) refl) (unposted (nat_lt before.taken 32768) ∙ sym unposting) (λ shed. absurd (unshed (nat_lt before.taken 32768) shed)) one holds.meter)
       (SitesMatch-suspend w es e (branch_of task.spot) (segment_of task.spot) task.id run.fires holds.legal allowed (ap branch_of spot_so) (ap segment_of spot_so) there note holds.sites)

@@ -17,10 +17,10 @@ use Rattle.ccr_base.proofs.Options.{none-above}
 use Rattle.ccr_model.proofs.LegalIsCovered.{IsCovered-legal}
 use Rattle.ccr_actor.specs.Actors.{State, Work, lines, round, work_of, fresh_state}
 use Rattle.ccr_runs.specs.declared.entries.Entry.{Entry}
-use Rattle.ccr_runs.specs.EntryRuns.{Lacks, IsRun, port_at, state_of}
+use Rattle.ccr_runs.specs.EntryRuns.{Lacks, IsRun, port_at, state_of, queue_at}
 use Rattle.ccr_runs.specs.Visible.{visible}
 use Rattle.ccr_net.proofs.Parts.TasksAreBookedOnce.{QueueSound-start}
-use Rattle.ccr_net.proofs.Parts.OneMoreEntry.{queue_at, along_run, Step-made}
+use Rattle.ccr_net.proofs.Parts.OneMoreEntry.{along_run, Step-made}
 use Rattle.ccr_net.proofs.Parts.DomainsMatch.{DomainMatches-begins}
 use Rattle.ccr_net.proofs.Parts.PortsAndHandsMatch.{puts_in, ActorMatches}
 use Rattle.ccr_net.proofs.Parts.WorkMatches.{WorkMatches}

@@ -26,9 +26,9 @@ use Rattle.ccr_places.specs.Queues.{QueueState}
 use Rattle.ccr_claim.specs.Attempts.{Phase, had_in, booking, claiming}
 use Rattle.ccr_actor.specs.Actors.{State, Work, name_at, turn, go_on, after_in, spots_left}
 use Rattle.ccr_runs.specs.declared.entries.Entry.{Entry}
-use Rattle.ccr_runs.specs.EntryRuns.{Lacks, state_of, port_at, reply_of}
+use Rattle.ccr_runs.specs.EntryRuns.{Lacks, state_of, port_at, reply_of, queue_at}
 use Rattle.ccr_runs.specs.Visible.{visible, event_of}
-use Rattle.ccr_net.proofs.Parts.OneMoreEntry.{visible-push, queue_at}
+use Rattle.ccr_net.proofs.Parts.OneMoreEntry.{visible-push}
 use Rattle.ccr_net.proofs.Parts.PostsKeepMarks.{first_fitting-post}
 use Rattle.ccr_net.proofs.Parts.PortsAndHandsMatch.{ActorMatches, puts_in}
 use Rattle.ccr_net.proofs.Parts.DomainsMatch.{DomainsMatch, DomainsMatch-event, DomainsMatch-elsewhere}

@@ -22,7 +22,8 @@ use Rattle.ccr_model.proofs.FiredTasks.{fired_has}
 use Rattle.ccr_model.proofs.TaskLists.{among_right}
 use Rattle.ccr_base.proofs.Booleans.{same_number, no_both}
 use Rattle.ccr_model.proofs.Members.{Among}
-use Rattle.ccr_model.proofs.SameNames.{same_task-is}
+use Rattle.ccr_model.proofs.Cutting.{cut_fired}
+use Rattle.ccr_base.proofs.SameNames.{same_task-is}
 use Rattle.ccr_places.specs.declared.claims.StandingClaim.{StandingClaim}
 use Rattle.ccr_places.specs.declared.notes.ClaimNote.TheVariants.{Got}
 use Rattle.ccr_places.specs.declared.notes.Note.{Note}
@@ -39,11 +40,10 @@ use Rattle.ccr_actor.specs.Plans.{pattern_at, plan_of}
 use Rattle.ccr_wiring.specs.Wirings.{queue_of_spot as queue_number}
 use Rattle.ccr_actor.specs.Actors.{State, Work, settle, drive, turn, name_at, after_in, spots_left, give_up}
 use Rattle.ccr_runs.specs.declared.entries.Entry.{Entry}
-use Rattle.ccr_runs.specs.EntryRuns.{Lacks, state_of, port_at, reply_of}
+use Rattle.ccr_runs.specs.EntryRuns.{Lacks, state_of, port_at, reply_of, queue_at}
 use Rattle.ccr_runs.specs.Visible.{visible, event_of}
-use Rattle.ccr_net.proofs.Parts.OneMoreEntry.{visible-push, queue_at}
+use Rattle.ccr_net.proofs.Parts.OneMoreEntry.{visible-push}
 use Rattle.ccr_net.proofs.Parts.PortsAndHandsMatch.{PortsMatch, claim_for, put_in, puts_in}
-use Rattle.ccr_net.proofs.Parts.EventsChangeDomains.{cut_fired}
 use Rattle.ccr_net.proofs.Parts.DomainsMatch.{DomainsMatch, DomainsMatch-elsewhere, DomainsMatch-over, DomainsMatch-still}
 use Rattle.ccr_net.proofs.Parts.StepsKeepPorts.{Changes, PortsMatch-consume, PortsMatch-free, PortsMatch-got}
 use Rattle.ccr_net.proofs.Parts.StepsKeepActors.{ActorMatches-same, ActorMatches-ports, ActorMatches-settled, ActorMatches-give_up, ActorMatches-got, unfired, puts-release}

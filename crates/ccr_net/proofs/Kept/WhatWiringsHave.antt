@@ -31,7 +31,7 @@ use Rattle.ccr_base.proofs.Booleans.{both}
 use Rattle.ccr_model.proofs.Members.{Among}
 use Rattle.ccr_model.proofs.PostNames.{along, refused_not}
 use Rattle.ccr_model.proofs.OneMoreEvent.{posts-push, started-push}
-use Rattle.ccr_model.proofs.SameNames.{same_task-is}
+use Rattle.ccr_base.proofs.SameNames.{same_task-is}
 use Rattle.ccr_model.proofs.TasksLeft.{of_without}
 use Rattle.ccr_model.proofs.TaskLists.{among_left}
 use Rattle.ccr_net.proofs.Parts.PhasesFitPlans.{SpotFits}

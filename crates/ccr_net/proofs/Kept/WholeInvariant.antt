@@ -21,9 +21,9 @@ use Rattle.ccr_claim.specs.declared.asks.Asked.{Asked}
 use Rattle.ccr_actor.specs.Actors.{State, Work, name_at, settle, admit, drive, go_on, turn, turn_of, after_in, shorten, start, state_after, work_of}
 use Rattle.ccr_runs.specs.declared.entries.Entry.{Entry}
 use Rattle.ccr_runs.specs.Places.{meter_after}
-use Rattle.ccr_runs.specs.EntryRuns.{Lacks, state_of, port_at, notes_at, reply_of, same_place}
+use Rattle.ccr_runs.specs.EntryRuns.{Lacks, state_of, port_at, notes_at, reply_of, same_place, queue_at}
 use Rattle.ccr_runs.specs.Visible.{visible}
-use Rattle.ccr_net.proofs.Parts.OneMoreEntry.{port_at-push, queue_at, queue_at-push, IsNextState, state_of-own, state_of-other}
+use Rattle.ccr_net.proofs.Parts.OneMoreEntry.{port_at-push, queue_at-push, IsNextState, state_of-own, state_of-other}
 use Rattle.ccr_net.proofs.Parts.PortsAndHandsMatch.{PortsMatch, ActorMatches, puts_in}
 use Rattle.ccr_net.proofs.Parts.StepsKeepPorts.{Changes}
 use Rattle.ccr_net.proofs.Parts.StepsKeepActors.{ActorMatches-same, ActorMatches-short, puts-short}

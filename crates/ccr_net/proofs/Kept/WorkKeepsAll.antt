@@ -30,9 +30,10 @@ use Rattle.ccr_model.specs.Tasks.{running, running_by, has_post_left, unfinished
 use Rattle.ccr_base.proofs.Booleans.{same_number, eq-self, or_right}
 use Rattle.ccr_base.proofs.Options.{no_some}
 use Rattle.ccr_model.proofs.OneMoreEvent.{posts-push}
-use Rattle.ccr_model.proofs.SameNames.{same_value-self}
+use Rattle.ccr_base.proofs.SameNames.{same_value-self}
 use Rattle.ccr_model.proofs.TaskLists.{to_filter}
 use Rattle.ccr_model.proofs.Members.{Among-kept}
+use Rattle.ccr_model.proofs.RunningTasks.{starts, running_by-push}
 use Rattle.ccr_places.specs.declared.notes.Note.{Note}
 use Rattle.ccr_places.specs.declared.notes.Note.TheVariants as notes
 use Rattle.ccr_places.specs.Queues as queues
@@ -43,13 +44,13 @@ use Rattle.ccr_claim.specs.Lines.{script_message}
 use Rattle.ccr_wiring.specs.Takers.{spots_at, takes_from}
 use Rattle.ccr_actor.specs.Actors.{State, Work, name_at, lines, round, taking, playing, posting, shedding, resting, go_on, turn, ask_in, after_in, play_in, take_from, after_over, driving, work_ask, task_message}
 use Rattle.ccr_runs.specs.declared.entries.Entry.{Entry}
-use Rattle.ccr_runs.specs.EntryRuns.{Lacks, state_of, port_at, notes_at, reply_of}
+use Rattle.ccr_runs.specs.EntryRuns.{Lacks, state_of, port_at, notes_at, reply_of, queue_at}
 use Rattle.ccr_runs.specs.Visible.{visible, event_of}
-use Rattle.ccr_net.proofs.Parts.OneMoreEntry.{visible-push, queue_at, Step}
+use Rattle.ccr_net.proofs.Parts.OneMoreEntry.{visible-push, Step}
 use Rattle.ccr_net.proofs.Parts.StepsKeepActors.{ActorMatches-same}
 use Rattle.ccr_net.proofs.Parts.QueuesMatch.{QueueChanges, takes}
 use Rattle.ccr_net.proofs.Parts.BookedHasRoom.{BookingsMatch-take, Stays-note}
-use Rattle.ccr_net.proofs.Parts.TasksStartOnce.{AreStarted-legal, run_apart, runs, starts, running_by-push}
+use Rattle.ccr_net.proofs.Parts.TasksStartOnce.{AreStartedOnce-legal, run_apart, runs}
 use Rattle.ccr_net.proofs.Parts.WorkMatches.{WorkMatches, RunsTask, Scripted, Idle, script_says, task_says, script_own, task_own, drop-next, drop-end, play-view, view-stays}
 use Rattle.ccr_net.proofs.Parts.MeterMatches.{MeterMatches, MeterMatches-quiet, MeterMatches-drawn, MeterMatches-spent, MeterMatches-post, is_posting, is_shedding, count, bit, count-one, count-some, count-within}
 use Rattle.ccr_net.proofs.Kept.WholeInvariant.{ActorHolds, Holds, meter_at, meter_at-push, works_of, queue_changes, same_ports, same_queues}
@@ -341,7 +342,7 @@ module _ (w : Parts) (n : ℕ) (first : PlainFacts w) (few : n ≤ 33) (lacks : 
             },
             is.1,
           )
-          (λ a other. task_says h m a e.actor index task.id (AreStarted-legal w h holds.legal) refl run.alone other)
+          (λ a other. task_says h m a e.actor index task.id (AreStartedOnce-legal w h holds.legal) refl run.alone other)
           (λ works' one. MeterMatches-post w n h (h ++ events.Post m ∷ []) (meter_at w es).drawn e.actor (works_of w lacks es) works' (playing task (index + 1) play) low (rw (posts-push h (events.Post m)) (posts_task (posts h) m refl)) posts_now refl refl one holds.meter)
         where
           quiet_post : (m : Msg) → (running_by (h ++ events.Post m ∷ []) e.actor ≡ running_by h e.actor) × IsFired (h ++ events.Post m ∷ []) task.id
@@ -397,7 +398,7 @@ module _ (w : Parts) (n : ℕ) (first : PlainFacts w) (few : n ≤ 33) (lacks : 
       within : count n busy ≤ count_unfinished w h
       within = count-within n busy (λ a. task_of (works a)) (unfinished w h)
           (λ a less is. (let r = busy_runs a is in subst (λ t. has_task (unfinished w h) t ≡ true) (sym r.1) r.3))
-          (λ a b is also same. (let r = busy_runs a is in let s = busy_runs b also in run_apart h a b r.0.id s.0.id (AreStarted-legal w h holds.legal) r.2 s.2 (sym r.1 ∙ same ∙ s.1)))
+          (λ a b is also same. (let r = busy_runs a is in let s = busy_runs b also in run_apart h a b r.0.id s.0.id (AreStartedOnce-legal w h holds.legal) r.2 s.2 (sym r.1 ∙ same ∙ s.1)))
 
       one_more : count n busy ≡ count n (λ a. is_posting (works a)) + 1
       one_more =

@@ -47,6 +47,7 @@ use Rattle.ccr_runs.specs.declared.entries.Entry.{Entry}
 use Rattle.ccr_runs.specs.Places.{arbiter_after, first_branch, given, note_at_arbiter, note_by_kind, note_of}
 use Rattle.ccr_runs.specs.EntryRuns.{Lacks, notes_at, port_at, same_place, state_of}
 use Rattle.ccr_runs.specs.Visible.{visible}
+use Rattle.ccr_runs.specs.Views.{suspended_view}
 use Rattle.ccr_net.proofs.Parts.ArbitersMatch.{none_at_first}
 use Rattle.ccr_net.proofs.Parts.StepsKeepActors.{unfired}
 use Rattle.ccr_net.proofs.Kept.WholeInvariant.{Holds, domains_admit, hand_settles, spots_drive}
@@ -61,7 +62,6 @@ use Rattle.ccr_net.proofs.Parts.NotesAnswerAsks.{none_at}
 use Rattle.ccr_net.proofs.Parts.GotNamesStandAlone.{sorted_among}
 use Rattle.ccr_net.proofs.Parts.PhasesFitPlans.{Fits, PhaseFits, SpotFits}
 use Rattle.ccr_net.proofs.Kept.WhatWiringsHave.{PlainFacts}
-use Rattle.ccr_net.proofs.Played.ObjectsFollowNotes.{suspended_view}
 use Rattle.ccr_net.proofs.Played.PlacesByNumber.{same_place-is}
 use Rattle.ccr_net.proofs.Kept.ShownStepsKeepAll.{named_legal}
 use Rattle.ccr_net.proofs.Parts.WorkMatches.{RunsTask, WorkMatches, drop-next, play-view}
@@ -381,7 +381,7 @@ module _ (w : Parts) (valid : IsValid w) (plain : PlainFacts w) (n : ℕ) (lacks
           let e : y ≡ x = inside same in
           let both = owed_named y.place y.ask note ((holds.actors a).claims.owed y among) ((handed a).hands y among) (subst (λ (z : Asked). note_of w z.place (notes_at es z.place) z.ask ≡ Some note) (sym e) gives) in
           subst (IsNamed w) e (record { place = both.0; ask = both.1 })
-      by (admit i more) turns same = one _ (record { place = domain_place w valid i (reach.arbs i (subst (Among i) (sym (domains_admit st.is_short st.hand st.domains (spots_left st) i more turns)) (inl refl))); ask = tt }) same
+      by (admit i more) turns same = one _ (record { place = domain_place w valid i (reach.domains i (subst (Among i) (sym (domains_admit st.is_short st.hand st.domains (spots_left st) i more turns)) (inl refl))); ask = tt }) same
       by (drive spot more) turns same =
           let found = attempts spot more (spots_drive st.is_short st.hand st.domains (spots_left st) spot more turns).1 in
           one _ (drive_named spot found.0 st.phase refl found.1) same

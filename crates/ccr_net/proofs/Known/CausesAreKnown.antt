@@ -37,6 +37,7 @@ use Rattle.ccr_base.proofs.Booleans.{both, same_number, not_true}
 use Rattle.ccr_model.proofs.Members.{Among, Among-either, Among-at, Among-kept, index_of}
 use Rattle.ccr_base.proofs.Options.{some_of, some_then}
 use Rattle.ccr_base.specs.Lists.{has_number, are_apart}
+use Rattle.ccr_base.proofs.SameNames.{same_numbers-is}
 use Rattle.ccr_model.proofs.PostNames.{along, refused_not}
 use Rattle.ccr_model.proofs.OneMoreEvent.{posts-push}
 use Rattle.ccr_model.proofs.TakenWerePosted.{took_among}
@@ -198,17 +199,11 @@ module _ (w : Parts) (all : IsSound w) where
 
   -- ---- posts
 
-  same_causes : (cs ds : List ℕ) → same_lists (λ c d. c == d) cs ds ≡ true → cs ≡ ds
-  same_causes [] [] is = refl
-  same_causes (c ∷ cs) (d ∷ ds) is = let two = both (c == d) (same_lists (λ a b. a == b) cs ds) is in (λ j. same_number c d two.0 j ∷ same_causes cs ds two.1 j)
-  same_causes [] (d ∷ ds) is = absurd (cc)
-  same_causes (c ∷ cs) [] is = absurd (cc)
-
   sent_as : (m : Msg) (sent : Sent) → is_post m sent ≡ true → IsSentFine sent → (m.port < length w.ports) × AreFine (length w.causes) m.causes
   sent_as m sent is fine =
       let two = both ((m.port == sent.port) && same_value m.value sent.value) (same_lists (λ c d. c == d) m.causes sent.causes) is in
       let one = both (m.port == sent.port) (same_value m.value sent.value) two.0 in
-      (subst (λ p. p < length w.ports) (sym (same_number m.port sent.port one.0)) fine.port, subst (AreFine (length w.causes)) (sym (same_causes m.causes sent.causes two.1)) fine.causes)
+      (subst (λ p. p < length w.ports) (sym (same_number m.port sent.port one.0)) fine.port, subst (AreFine (length w.causes)) (sym (same_numbers-is m.causes sent.causes two.1)) fine.causes)
 
   pub script_fine : (poster : ℕ) (part : PosterPart) (index : ℕ) (sent : Sent) → slice_get w.posters poster ≡ Some part → slice_get part.posts index ≡ Some sent → IsSentFine sent
   script_fine poster part index sent is line =

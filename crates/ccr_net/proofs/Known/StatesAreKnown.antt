@@ -21,7 +21,7 @@ use Rattle.ccr_model.specs.Firings.{dropped}
 use Rattle.ccr_model.specs.Legal.{IsLegal}
 use Rattle.ccr_model.proofs.Members.{Among, Among-either}
 use Rattle.ccr_model.proofs.OneMoreEvent.{dropped-push}
-use Rattle.ccr_model.proofs.SameNames.{same_task-self}
+use Rattle.ccr_base.proofs.SameNames.{same_task-self}
 use Rattle.ccr_model.proofs.TaskLists.{among_right}
 use Rattle.ccr_model.proofs.WhoWasPut.{ArePlaced-legal}
 use Rattle.ccr_places.specs.declared.notes.ClaimNote.TheVariants.{Got, Busy, Short}
@@ -44,7 +44,7 @@ WorkReaches w (taking left q more) = q + length more < length w.queues
 WorkReaches w _ = Unit {0}
 
 pub record Reaches (w : Parts) (st : State) : Type 0 where
-  pub arbs : (i : ℕ) → Among i st.domains → IsDomain w i
+  pub domains : (i : ℕ) → Among i st.domains → IsDomain w i
   pub works : WorkReaches w st.work
 
 -- ---- what a put drops
@@ -100,18 +100,18 @@ add_reaches w i is one known j there = by (is_interleave_number w i && not (list
     by false among = known j among
 
 pub short_reaches : (w : Parts) (a : ℕ) (st : State) → Reaches w st → Reaches w (shorten w a st)
-short_reaches w a st reach = record { arbs = reach.arbs; works = reach.works }
+short_reaches w a st reach = record { domains = reach.domains; works = reach.works }
 
 module _ (w : Parts) (all : IsSound w) (h : List Event) (legal : IsLegal w h) (a : ℕ) (st : State) (fits : (spot : Spot) → Among spot st.spots → SpotFits w spot) (works : WorkMatches w h a st.work) (reach : Reaches w st) where
   settled_reaches : (reply : Reply) (more : List _) → DropReaches w reply → Reaches w (settled w st more reply)
   settled_reaches reply more drops = by reply drops
     where
       rest : Reaches w (record st { hand = more })
-      rest = record { arbs = reach.arbs; works = reach.works }
+      rest = record { domains = reach.domains; works = reach.works }
 
       too : (t : Task) → IsDomain w t.arbiter → (b : Bool) → (i : ℕ) → Among i (if b then add_domain w t.arbiter st.domains else st.domains) → IsDomain w i
-      too t one true i there = add_reaches w t.arbiter st.domains one reach.arbs i there
-      too t one false i there = reach.arbs i there
+      too t one true i there = add_reaches w t.arbiter st.domains one reach.domains i there
+      too t one false i there = reach.domains i there
 
       by : (reply : Reply) → DropReaches w reply → Reaches w (settled w st more reply)
       by replies.Done drops = rest
@@ -124,7 +124,7 @@ module _ (w : Parts) (all : IsSound w) (h : List Event) (legal : IsLegal w h) (a
       by replies.Booked drops = rest
       by (replies.Full k) drops = rest
       by (replies.Dropped None) drops = rest
-      by (replies.Dropped (Some t)) drops = record { arbs = too t drops (nat_lt st.admitted 32768); works = reach.works }
+      by (replies.Dropped (Some t)) drops = record { domains = too t drops (nat_lt st.admitted 32768); works = reach.works }
       by (replies.Taken o) drops = rest
       by (replies.Drawn k) drops = rest
       by replies.Spent drops = rest
@@ -134,10 +134,10 @@ module _ (w : Parts) (all : IsSound w) (h : List Event) (legal : IsLegal w h) (a
   admit_reaches i more list reply = by reply
     where
       struck : Reaches w (record st { domains = more })
-      struck = record { arbs = λ j there. reach.arbs j (subst (Among j) (sym list) (inr there)); works = reach.works }
+      struck = record { domains = λ j there. reach.domains j (subst (Among j) (sym list) (inr there)); works = reach.works }
 
       on : (b : Bool) (j : ℕ) → Among j (if b then st.domains else []) → IsDomain w j
-      on true j there = reach.arbs j there
+      on true j there = reach.domains j there
       on false j none = absurd none
 
       by : (reply : Reply) → Reaches w (after_admit st more reply)
@@ -148,7 +148,7 @@ module _ (w : Parts) (all : IsSound w) (h : List Event) (legal : IsLegal w h) (a
       by (replies.Fired o cuts) = struck
       by (replies.Dead cause) = struck
       by (replies.Admitted None) = struck
-      by (replies.Admitted (Some t)) = record { arbs = on (nat_lt (st.admitted + 1) 32768); works = reach.works }
+      by (replies.Admitted (Some t)) = record { domains = on (nat_lt (st.admitted + 1) 32768); works = reach.works }
       by replies.Booked = struck
       by (replies.Full k) = struck
       by (replies.Dropped o) = struck
@@ -161,7 +161,7 @@ module _ (w : Parts) (all : IsSound w) (h : List Event) (legal : IsLegal w h) (a
   drive_reaches spot more here reply = by reply
     where
       gives_up : Reaches w (give_up w a st spot more)
-      gives_up = record { arbs = reach.arbs; works = reach.works }
+      gives_up = record { domains = reach.domains; works = reach.works }
 
       entered : (o : Option Task) (i : ℕ) → Among i (admissions_after w spot o) → IsDomain w i
       entered None i (inl e) = subst (IsDomain w) (sym e) (spot_domain w spot here)
@@ -170,13 +170,13 @@ module _ (w : Parts) (all : IsSound w) (h : List Event) (legal : IsLegal w h) (a
 
       by : (reply : Reply) → Reaches w (after_attempt w a st spot more reply)
       by replies.Done = gives_up
-      by (replies.Got ms) = record { arbs = reach.arbs; works = reach.works }
+      by (replies.Got ms) = record { domains = reach.domains; works = reach.works }
       by (replies.Busy t) = gives_up
       by (replies.Short k) = gives_up
-      by (replies.Fired o cuts) = record { arbs = entered o; works = reach.works }
+      by (replies.Fired o cuts) = record { domains = entered o; works = reach.works }
       by (replies.Dead cause) = gives_up
       by (replies.Admitted o) = gives_up
-      by replies.Booked = record { arbs = reach.arbs; works = reach.works }
+      by replies.Booked = record { domains = reach.domains; works = reach.works }
       by (replies.Full k) = gives_up
       by (replies.Dropped o) = gives_up
       by (replies.Taken o) = gives_up
@@ -185,8 +185,8 @@ module _ (w : Parts) (all : IsSound w) (h : List Event) (legal : IsLegal w h) (a
       by (replies.Left k) = gives_up
 
   take_reaches : (left q : ℕ) (parts : List QueuePart) → q + length parts ≤ length w.queues → Reaches w (take_from w st left q parts)
-  take_reaches left q (part ∷ parts) low = record { arbs = reach.arbs; works = omega (arith, low) }
-  take_reaches left q [] low = record { arbs = reach.arbs; works = rests ((left == length w.posters) || nat_le 10000 (st.empty + 1)) }
+  take_reaches left q (part ∷ parts) low = record { domains = reach.domains; works = omega (arith, low) }
+  take_reaches left q [] low = record { domains = reach.domains; works = rests ((left == length w.posters) || nat_le 10000 (st.empty + 1)) }
     where
       rests : (c : Bool) → WorkReaches w (if c then resting else round)
       rests true = tt
@@ -203,12 +203,12 @@ module _ (w : Parts) (all : IsSound w) (h : List Event) (legal : IsLegal w h) (a
   task_domain task index left run = subst (λ (t : Task). IsDomain w t.arbiter) (sym run.as_seen) (view_domain w all h legal task.id run.fires)
 
   over_reaches : (task : Task) → IsDomain w task.arbiter → Reaches w (after_over w st task)
-  over_reaches task one = record { arbs = add_reaches w task.arbiter st.domains one reach.arbs; works = rounds_on }
+  over_reaches task one = record { domains = add_reaches w task.arbiter st.domains one reach.domains; works = rounds_on }
 
   end_reaches : (task : Task) → IsDomain w task.arbiter → (end : PlayEnd) → Reaches w (after_end w st task end)
   end_reaches task one plays.Done = over_reaches task one
   end_reaches task one (plays.Failed v) = over_reaches task one
-  end_reaches task one (plays.Yield site) = record { arbs = reach.arbs; works = rounds_on }
+  end_reaches task one (plays.Yield site) = record { domains = reach.domains; works = rounds_on }
 
   taking_reaches : (left q : ℕ) (more : List QueuePart) → q + length more < length w.queues → (reply : Reply) → Reaches w (after_work w st (taking left q more) reply)
   taking_reaches left q more low reply = by reply
@@ -228,7 +228,7 @@ module _ (w : Parts) (all : IsSound w) (h : List Event) (legal : IsLegal w h) (a
       by (replies.Full k) = next
       by (replies.Dropped o) = next
       by (replies.Taken None) = next
-      by (replies.Taken (Some t)) = record { arbs = reach.arbs; works = tt }
+      by (replies.Taken (Some t)) = record { domains = reach.domains; works = tt }
       by (replies.Drawn k) = next
       by replies.Spent = next
       by (replies.Left k) = next
@@ -237,7 +237,7 @@ module _ (w : Parts) (all : IsSound w) (h : List Event) (legal : IsLegal w h) (a
   post_reaches task index play sent more reply = by reply
     where
       shed : Reaches w (record st { work = shedding task })
-      shed = record { arbs = reach.arbs; works = tt }
+      shed = record { domains = reach.domains; works = tt }
 
       by : (reply : Reply) → Reaches w (after_play w st task index play (sent ∷ more) reply)
       by replies.Done = shed
@@ -251,7 +251,7 @@ module _ (w : Parts) (all : IsSound w) (h : List Event) (legal : IsLegal w h) (a
       by (replies.Full k) = shed
       by (replies.Dropped o) = shed
       by (replies.Taken o) = shed
-      by (replies.Drawn k) = record { arbs = reach.arbs; works = tt }
+      by (replies.Drawn k) = record { domains = reach.domains; works = tt }
       by replies.Spent = shed
       by (replies.Left k) = shed
 
@@ -272,8 +272,8 @@ module _ (w : Parts) (all : IsSound w) (h : List Event) (legal : IsLegal w h) (a
   round_reaches replies.Spent same = same
 
   work_reaches : (work : Work) → WorkMatches w h a work → WorkReaches w work → (reply : Reply) → Reaches w (after_work w st work reply)
-  work_reaches (lines index []) match low reply = record { arbs = reach.arbs; works = tt }
-  work_reaches (lines index (sent ∷ sents)) match low reply = record { arbs = reach.arbs; works = tt }
+  work_reaches (lines index []) match low reply = record { domains = reach.domains; works = tt }
+  work_reaches (lines index (sent ∷ sents)) match low reply = record { domains = reach.domains; works = tt }
   work_reaches round match low reply = round_reaches reply reach
   work_reaches (taking left q more) match low reply = taking_reaches left q more low reply
   work_reaches (playing task index play) match low reply = by play.posts
@@ -281,7 +281,7 @@ module _ (w : Parts) (all : IsSound w) (h : List Event) (legal : IsLegal w h) (a
       by : (ps : List Sent) → Reaches w (after_play w st task index play ps reply)
       by [] = end_reaches task (task_domain task index play.posts match.0) play.end
       by (sent ∷ more) = post_reaches task index play sent more reply
-  work_reaches (posting task index play sent) match low reply = record { arbs = reach.arbs; works = tt }
+  work_reaches (posting task index play sent) match low reply = record { domains = reach.domains; works = tt }
   work_reaches (shedding task) match low reply = over_reaches task (task_domain task match.0 (match.1 ∷ match.2) match.3)
   work_reaches resting match low reply = reach
 
@@ -303,7 +303,7 @@ module _ (w : Parts) (all : IsSound w) (h : List Event) (legal : IsLegal w h) (a
       by stop turns = reach
 
 pub begin_reaches : (w : Parts) (a : ℕ) → Reaches w (start w a)
-begin_reaches w a = record { arbs = λ i none. absurd none; works = by (slice_get w.posters a) }
+begin_reaches w a = record { domains = λ i none. absurd none; works = by (slice_get w.posters a) }
   where
     by : (o : Option PosterPart) → WorkReaches w (option_map_or (λ (p : PosterPart). lines 0 p.posts) o round)
     by None = tt

@@ -38,10 +38,9 @@ use Rattle.ccr_model.proofs.TakenOnce.{FireFacts-allowed}
 use Rattle.ccr_claim.specs.Wired.{IsDomainOf, IsSpotOf, IsTaskOf}
 use Rattle.ccr_claim.specs.Plans.{firing_task}
 use Rattle.ccr_actor.specs.Plans.{plan_of}
-use Rattle.ccr_runs.specs.Views.{view}
+use Rattle.ccr_runs.specs.Views.{view, suspended_view}
 use Rattle.ccr_net.proofs.Known.CausesAreKnown.{AreFine, causes_below, fine_causes, load_of-fine, play_of-fine, posted_fine, union_fine}
 use Rattle.ccr_net.proofs.Parts.PhasesFitPlans.{SpotFits}
-use Rattle.ccr_net.proofs.Played.ObjectsFollowNotes.{suspended_view}
 
 -- ---- domains
 

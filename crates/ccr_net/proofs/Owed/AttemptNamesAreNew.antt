@@ -14,7 +14,7 @@ use Rattle.ccr_handler.specs.declared.segments.PlayEnd.TheVariants as plays
 use Rattle.ccr_wiring.specs.declared.parts.Parts.{Parts}
 use Rattle.ccr_base.proofs.Booleans.{same_number, eq-self, no_both, both, or_left, or_right}
 use Rattle.ccr_model.proofs.Members.{Among}
-use Rattle.ccr_model.proofs.SameNames.{same_task-is}
+use Rattle.ccr_base.proofs.SameNames.{same_task-is}
 use Rattle.ccr_places.specs.declared.notes.Note.{Note}
 use Rattle.ccr_places.specs.declared.notes.Note.TheVariants as notes
 use Rattle.ccr_places.specs.Queues.{QueueState, Queued}
@@ -27,9 +27,9 @@ use Rattle.ccr_claim.specs.Attempts.{Phase, booking, claiming}
 use Rattle.ccr_actor.specs.Actors.{State, Work, lines, round, taking, playing, posting, shedding, resting, after, after_work, shorten, name_at, work_ask, play_ask, end_ask}
 use Rattle.ccr_runs.specs.declared.entries.Entry.{Entry}
 use Rattle.ccr_runs.specs.Places.{queue_note}
-use Rattle.ccr_runs.specs.EntryRuns.{Lacks, state_of, same_place, reply_of}
+use Rattle.ccr_runs.specs.EntryRuns.{Lacks, state_of, same_place, reply_of, queue_at}
 use Rattle.ccr_runs.specs.Visible.{visible}
-use Rattle.ccr_net.proofs.Parts.OneMoreEntry.{Step, queue_at, queue_at-push, IsNextState, state_of-own, state_of-other}
+use Rattle.ccr_net.proofs.Parts.OneMoreEntry.{Step, queue_at-push, IsNextState, state_of-own, state_of-other}
 use Rattle.ccr_net.proofs.Parts.PortsAndHandsMatch.{IsOwed}
 use Rattle.ccr_net.proofs.Kept.WholeInvariant.{Holds}
 use Rattle.ccr_net.proofs.Parts.TasksAreBookedOnce.{in-more, in-less}

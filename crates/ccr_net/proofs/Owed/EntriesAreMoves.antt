@@ -34,10 +34,10 @@ use Rattle.ccr_actor.specs.Plans.{plan_of}
 use Rattle.ccr_actor.specs.Actors.{State, Turn, settle, admit, drive, go_on, stop, turn, turn_of, ask_in, after, after_in, after_admit, after_attempt, after_work, settled, put_admitted, admit_too, give_up, fire, spots_left, work_ask, name_at}
 use Rattle.ccr_runs.specs.declared.entries.Entry.{Entry}
 use Rattle.ccr_runs.specs.Places.{note_of, note_at_arbiter, note_by_kind, first_branch, arbiter_after, interleave_after, site_after, commit_note}
-use Rattle.ccr_runs.specs.EntryRuns.{Lacks, state_of, port_at, notes_at, reply_of, waits}
+use Rattle.ccr_runs.specs.EntryRuns.{Lacks, state_of, port_at, notes_at, reply_of, waits, queue_at}
 use Rattle.ccr_runs.specs.Views.{view, cut_view}
 use Rattle.ccr_runs.specs.Visible.{visible}
-use Rattle.ccr_net.proofs.Parts.OneMoreEntry.{Step, queue_at}
+use Rattle.ccr_net.proofs.Parts.OneMoreEntry.{Step}
 use Rattle.ccr_net.proofs.Kept.WholeInvariant.{hand_settles, spots_drive}
 use Rattle.ccr_net.proofs.Parts.NotesAnswerAsks.{Given, given_to, given_some}
 

@@ -30,6 +30,7 @@ use Rattle.ccr_claim.specs.Attempts.{at_place, Phase, booking, claiming, attempt
 use Rattle.ccr_actor.specs.Plans.{plan_of}
 use Rattle.ccr_actor.specs.Actors.{State, Work, lines, round, taking, playing, posting, shedding, resting, go_on, turn, after, after_work, in_attempt, shorten, fire, give_up, driven_on, admit_too, put_admitted, work_ask, play_ask, end_ask, name_at, spots_left}
 use Rattle.ccr_actor.proofs.StepsOfAttempts.{none-owed, same-attempt}
+use Rattle.ccr_actor.specs.Courses.{owing}
 use Rattle.ccr_runs.specs.declared.entries.Entry.{Entry}
 use Rattle.ccr_runs.specs.EntryRuns.{Lacks, state_of, port_at, reply_of}
 use Rattle.ccr_runs.specs.Views.{view, cut_view}
@@ -41,10 +42,6 @@ use Rattle.ccr_net.proofs.Kept.WholeInvariant.{Holds, none_go_on}
 use Rattle.ccr_net.proofs.Parts.NotesAnswerAsks.{Given}
 use Rattle.ccr_net.proofs.Owed.WorkKeepsStates.{Worked, worked}
 use Rattle.ccr_net.proofs.Owed.EntriesAreMoves.{Move, settles, drops, admits, strikes, books, claims, fires, gives_up, goes, handed, moved}
-
--- what would be in hand were there no memory now
-abbrev pub owing : Parts → ℕ → State → List Asked
-owing w a st = st.hand ++ in_attempt w a st st.spots
 
 -- an ask that settles nothing
 abbrev pub is_quiet : Ask → Bool

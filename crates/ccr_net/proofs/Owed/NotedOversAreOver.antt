@@ -27,13 +27,14 @@ use Rattle.ccr_base.proofs.Booleans.{no_both, or_left}
 use Rattle.ccr_base.proofs.Options.{no_some}
 use Rattle.ccr_model.proofs.FiredTasks.{root_stays}
 use Rattle.ccr_model.proofs.Members.{Among}
-use Rattle.ccr_model.proofs.SameNames.{same_task-self}
+use Rattle.ccr_base.proofs.SameNames.{same_task-self}
 use Rattle.ccr_model.proofs.TaskLists.{of_more, of_one}
 use Rattle.ccr_places.specs.declared.notes.Note.{Note}
 use Rattle.ccr_places.specs.declared.notes.Note.TheVariants as notes
 use Rattle.ccr_places.specs.Arbiters.{ArbiterState}
 use Rattle.ccr_places.specs.Arbiters as arbiters
 use Rattle.ccr_places.specs.Interleaves as interleaves
+use Rattle.ccr_places.specs.NotedTasks.{noted_over}
 use Rattle.ccr_claim.specs.declared.asks.Ask.{Ask}
 use Rattle.ccr_claim.specs.declared.asks.Ask.TheVariants as asks
 use Rattle.ccr_claim.specs.declared.asks.Asked.{Asked}
@@ -50,11 +51,6 @@ use Rattle.ccr_net.proofs.Owed.EntriesAreMoves.{commit_notes, IsCommitNote}
 use Rattle.ccr_net.proofs.Parts.NotesAnswerAsks.{Given, given_some, none_at, over_note}
 use Rattle.ccr_net.proofs.Owed.EntriesChangeOwing.{Owes, less, dropped, admitted, booked, got, fired, same, ended, owes, is_quiet, is_run_end, Runs}
 use Rattle.ccr_net.proofs.Owed.OwedByOneOnce.{owed_by, owed_each}
-
--- the root that the note says is over
-abbrev pub noted_over : Note → List TaskId
-noted_over (notes.Over task root how) = root ∷ []
-noted_over _ = []
 
 abbrev pub over_there : List Note → List TaskId
 over_there earlier = flat_map noted_over earlier

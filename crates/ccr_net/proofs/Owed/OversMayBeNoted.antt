@@ -34,7 +34,7 @@ use Rattle.ccr_model.proofs.FiredTasks.{IsFired, placement_stays, root_stays}
 use Rattle.ccr_model.proofs.AllowedFirings.{fired_by_has}
 use Rattle.ccr_model.proofs.FiringPlacements.{firing_with_placement}
 use Rattle.ccr_model.proofs.Roots.{AreRooted-legal, IsAtWork, at_work_admitted, running_works, queued_works, not_over}
-use Rattle.ccr_model.proofs.SameNames.{same_task-is, same_task-self}
+use Rattle.ccr_base.proofs.SameNames.{same_task-is, same_task-self}
 use Rattle.ccr_model.proofs.TaskLists.{among_left, of_one}
 use Rattle.ccr_model.proofs.WhoWasPut.{ArePlaced-legal, placement_by}
 use Rattle.ccr_model.proofs.TasksLeft.{has_task-append}
@@ -52,7 +52,7 @@ use Rattle.ccr_actor.specs.Plans.{plan_of, is_interleave_number}
 use Rattle.ccr_actor.specs.Actors.{State, name_at}
 use Rattle.ccr_runs.specs.declared.entries.Entry.{Entry}
 use Rattle.ccr_runs.specs.Places.{note_of, note_at_arbiter, note_by_kind, arbiter_note, interleave_note, first_branch, arbiter_after, interleave_after, commit_note}
-use Rattle.ccr_runs.specs.EntryRuns.{Lacks, state_of, notes_at, same_place}
+use Rattle.ccr_runs.specs.EntryRuns.{Lacks, state_of, notes_at, same_place, domain_at}
 use Rattle.ccr_runs.specs.Views.{cut_view, domain_of_task}
 use Rattle.ccr_runs.specs.Visible.{visible, shown}
 use Rattle.ccr_net.proofs.Parts.OneMoreEntry.{Step, notes_at-push, visible-push}
@@ -60,7 +60,7 @@ use Rattle.ccr_net.proofs.Parts.PortsAndHandsMatch.{IsOwed}
 use Rattle.ccr_net.proofs.Parts.ArbitersMatch.{fired_there, is_of, kept_shape, none_at_first}
 use Rattle.ccr_net.proofs.Kept.WholeInvariant.{Holds}
 use Rattle.ccr_net.proofs.Parts.TasksAreBookedOnce.{in-more, in-less}
-use Rattle.ccr_net.proofs.Parts.DomainsMatch.{domain_at, IsKeptRoot}
+use Rattle.ccr_net.proofs.Parts.DomainsMatch.{IsKeptRoot}
 use Rattle.ccr_net.proofs.Parts.MeterMatches.{bit}
 use Rattle.ccr_net.proofs.Owed.EntriesAreMoves.{handed}
 use Rattle.ccr_net.proofs.Parts.NotesAnswerAsks.{Given, given_some, over_note}

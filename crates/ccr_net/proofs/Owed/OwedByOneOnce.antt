@@ -16,6 +16,7 @@ use Rattle.ccr_model.specs.Legal.{IsLegal, IsAllowed}
 use Rattle.ccr_model.proofs.LegalParts.{legal_split}
 use Rattle.ccr_actor.specs.Plans.{plan_of}
 use Rattle.ccr_actor.specs.Actors.{in_attempt}
+use Rattle.ccr_actor.specs.Courses.{owing}
 use Rattle.ccr_runs.specs.EntryRuns.{Lacks, state_of, same_place, port_at}
 use Rattle.ccr_runs.specs.Visible.{visible}
 use Rattle.ccr_net.proofs.Parts.PortsAndHandsMatch.{IsOwed}
@@ -23,7 +24,6 @@ use Rattle.ccr_net.proofs.Parts.StepsKeepActors.{release_owed}
 use Rattle.ccr_net.proofs.Parts.OneMoreEntry.{state_of-other}
 use Rattle.ccr_net.proofs.Parts.MeterMatches.{bit}
 use Rattle.ccr_net.proofs.Kept.WholeInvariant.{Holds}
-use Rattle.ccr_net.proofs.Owed.EntriesChangeOwing.{owing}
 
 -- what an actor owes after these entries
 abbrev pub owed_by : Parts → Lacks → List Entry → ℕ → List Asked

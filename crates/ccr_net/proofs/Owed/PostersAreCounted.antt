@@ -1,7 +1,6 @@
 -- The posters that have left and those that haven't are no more than all posters.
 use Rattle.std.proofs.Common.{inl, inr, ◌⊎◌, ◌≡◌, ◌≢◌, ◌≤◌, ◌<◌, ℕ, zero, suc, ◌+◌, Bool, true, false, List, [], ◌∷◌, ◌++◌, length, Option, Some, None, refl, sym, arith, ap, ◌∙◌, subst}
 use Rattle.std.specs.Prelude.{◌==◌, if◌then◌else◌}
-use Rattle.std.specs.List.{slice_get}
 use Rattle.ccr_base.specs.declared.messages.Sent.{Sent}
 use Rattle.ccr_base.specs.declared.names.Place.{Place}
 use Rattle.ccr_base.specs.declared.names.Place.TheVariants as places
@@ -9,6 +8,7 @@ use Rattle.ccr_handler.specs.declared.segments.PlayEnd.{PlayEnd}
 use Rattle.ccr_handler.specs.declared.segments.PlayEnd.TheVariants as plays
 use Rattle.ccr_wiring.specs.declared.parts.Parts.{Parts}
 use Rattle.ccr_base.proofs.Booleans.{same_number, eq-self, differ}
+use Rattle.ccr_base.proofs.Options.{some-below}
 use Rattle.ccr_model.proofs.Members.{Among}
 use Rattle.ccr_places.specs.declared.notes.Note.{Note}
 use Rattle.ccr_places.specs.declared.notes.Note.TheVariants as notes
@@ -237,13 +237,8 @@ module _ (w : Parts) (n : ℕ) (lacks : Lacks) (es : List Entry) (e : Entry) (st
       poster : (index : ℕ) → st.work ≡ lines index [] → e.actor < length w.posters
       poster index is = of_script (rw is at (holds.actors e.actor).work)
         where
-          below : {X : Type 0} (xs : List X) (k : ℕ) (x : X) → slice_get xs k ≡ Some x → k < length xs
-          below [] k x at = absurd (cc)
-          below (y ∷ xs) zero x at = omega arith
-          below (y ∷ xs) (suc k) x at = let rest = below xs k x at in omega (arith, rest)
-
           of_script : WorkMatches w (visible es) e.actor (lines index []) → e.actor < length w.posters
-          of_script match = below w.posters e.actor match.poster match.is_poster
+          of_script match = some-below w.posters e.actor match.poster match.is_poster
 
       by : Changes (after w e.actor st (reply_of w es e)) → FewLeft w lacks (es ++ e ∷ [])
       by (inl stays) = let same = all_same (own ∙ stays.0) in let left = stays.1 in omega (arith, few, same, left)

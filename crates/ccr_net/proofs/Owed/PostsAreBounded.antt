@@ -19,13 +19,13 @@ use Rattle.ccr_wiring.specs.Limits.{posts_in_all}
 use Rattle.ccr_model.specs.declared.history.Event.{Event}
 use Rattle.ccr_model.specs.declared.history.Event.TheVariants as events
 use Rattle.ccr_model.specs.Legal.{IsLegal, IsAllowed}
-use Rattle.ccr_model.specs.Posts.{posts, posts_of_poster, posts_of_tasks, is_script_of, is_task_message}
+use Rattle.ccr_model.specs.Posts.{posts, posts_of_poster, posts_of_tasks, is_script_of, is_task_message, task_messages}
 use Rattle.ccr_model.specs.Rules.{is_script_line, is_post, refusal_of_post}
 use Rattle.ccr_base.proofs.Booleans.{same_number, eq-self, both}
 use Rattle.ccr_base.proofs.Options.{some-below}
 use Rattle.ccr_model.proofs.Members.{Among}
-use Rattle.ccr_model.proofs.PostNames.{along, refused_not, task_messages}
-use Rattle.ccr_model.proofs.OneMoreEvent.{posts-push}
+use Rattle.ccr_model.proofs.PostNames.{along, refused_not}
+use Rattle.ccr_model.proofs.OneMoreEvent.{posts-push, posts-append}
 use Rattle.ccr_places.specs.declared.claims.StandingClaim.{StandingClaim}
 use Rattle.ccr_places.specs.declared.notes.ClaimNote.TheVariants.{Got, Busy, Short}
 use Rattle.ccr_places.specs.declared.notes.Note.{Note}
@@ -236,11 +236,8 @@ FewItems es = (p : ℕ) → length (port_at es p).items ≤ length (posts (visib
 pub few_items-kept : (es : List Entry) (e : Entry) → FewItems es → FewItems (es ++ e ∷ [])
 few_items-kept es e few p = by (same_place e.place (places.Port p)) (ap (λ (s : PortState). length s.items) (port_at-push es e p))
   where
-    split : (g evs : List Event) → posts (g ++ evs) ≡ posts g ++ posts evs
-    split g evs = grind (arith, common_steps)
-
     longer : length (posts (visible (es ++ e ∷ []))) ≡ length (posts (visible es)) + length (posts (event_of e))
-    longer = ap (λ g. length (posts g)) (visible-push es e) ∙ ap (λ ms. length ms) (split (visible es) (event_of e)) ∙ length-append {A = Msg} (posts (visible es)) (posts (event_of e))
+    longer = ap (λ g. length (posts g)) (visible-push es e) ∙ ap (λ ms. length ms) (posts-append (visible es) (event_of e)) ∙ length-append {A = Msg} (posts (visible es)) (posts (event_of e))
 
     by : (b : Bool) → length (port_at (es ++ e ∷ []) p).items ≡ length (if b then ports.after (port_at es p) e.note else port_at es p).items → length (port_at (es ++ e ∷ []) p).items ≤ length (posts (visible (es ++ e ∷ [])))
     by true is = let old = few p in let room = kept_few e.actor (port_at es p) e.note in omega (arith, is, old, room, longer)

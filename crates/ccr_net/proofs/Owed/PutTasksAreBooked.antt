@@ -16,22 +16,21 @@ use Rattle.ccr_wiring.specs.Wirings.{Placement, placement, branch_of}
 use Rattle.ccr_model.specs.declared.history.Event.{Event}
 use Rattle.ccr_model.specs.declared.history.Event.TheVariants as events
 use Rattle.ccr_model.specs.Consequences.{are_distinct_tasks}
-use Rattle.ccr_model.specs.Firings.{Firing, firings, fired, cut, ever_admitted}
+use Rattle.ccr_model.specs.Firings.{Firing, fired, cut, ever_admitted}
 use Rattle.ccr_model.specs.Interleaves.{is_placement_in}
 use Rattle.ccr_model.specs.Legal.{IsLegal, IsAllowed}
-use Rattle.ccr_model.specs.Rules.{cuts_at, needs_no_admission}
+use Rattle.ccr_model.specs.Rules.{needs_no_admission}
 use Rattle.ccr_model.specs.TaskData.{placement_of}
-use Rattle.ccr_model.specs.Tasks.{waiting, is_teardown, is_branch_where}
+use Rattle.ccr_model.specs.Tasks.{is_branch_where}
 use Rattle.ccr_model.proofs.Allowing.{OneName-legal}
 use Rattle.ccr_base.proofs.Booleans.{same_number, eq-self, no_both, both, or_left, or_right, not_true, and_false}
 use Rattle.ccr_model.proofs.Cutting.{AdmitFacts, AdmitFacts-allowed, CutFacts-legal, waits_unput, cut_by}
 use Rattle.ccr_model.proofs.FiredTasks.{fired_has}
 use Rattle.ccr_model.proofs.AllowedFirings.{FiresSo-allowed, BranchFacts, BranchFacts-where, WaitingFacts, WaitingFacts-waiting, waits_outside, fired_by_has, firing_named-new}
-use Rattle.ccr_model.proofs.SameNames.{same_task-is, same_task-self}
+use Rattle.ccr_base.proofs.SameNames.{same_task-is, same_task-self}
 use Rattle.ccr_model.proofs.TaskLists.{of_one}
 use Rattle.ccr_model.proofs.WhoWasPut.{placement_by}
-use Rattle.ccr_model.proofs.TasksLeft.{distinct-filter}
-use Rattle.ccr_model.proofs.TasksOnce.{fired_once, some_once}
+use Rattle.ccr_model.proofs.TasksOnce.{cuts_distinct}
 use Rattle.ccr_places.specs.declared.notes.Note.{Note}
 use Rattle.ccr_places.specs.declared.notes.Note.TheVariants as notes
 use Rattle.ccr_places.specs.Queues.{QueueState}
@@ -45,10 +44,10 @@ use Rattle.ccr_actor.specs.Plans.{plan_of}
 use Rattle.ccr_actor.specs.Actors.{State, name_at}
 use Rattle.ccr_runs.specs.declared.entries.Entry.{Entry}
 use Rattle.ccr_runs.specs.Places.{queue_note}
-use Rattle.ccr_runs.specs.EntryRuns.{Lacks, state_of, port_at, same_place, waits}
+use Rattle.ccr_runs.specs.EntryRuns.{Lacks, state_of, port_at, same_place, waits, queue_at}
 use Rattle.ccr_runs.specs.Views.{view, cut_view, queue_of}
 use Rattle.ccr_runs.specs.Visible.{visible, shown}
-use Rattle.ccr_net.proofs.Parts.OneMoreEntry.{Step, queue_at, queue_at-push, visible-push}
+use Rattle.ccr_net.proofs.Parts.OneMoreEntry.{Step, queue_at-push, visible-push}
 use Rattle.ccr_net.proofs.Parts.PortsAndHandsMatch.{IsOwed, IsToPut}
 use Rattle.ccr_net.proofs.Parts.StepsKeepActors.{unfired, queue_stays}
 use Rattle.ccr_net.proofs.Kept.WholeInvariant.{Holds, queue_changes, same_queues, is_queue_place}
@@ -150,22 +149,6 @@ booked_kept queue asks.Leave note t is stands = absurd (cc)
 booked_kept queue asks.Left note t is stands = absurd (cc)
 
 -- ---- who waits
-
--- whom a firing cuts are different
-cuts_distinct : (w : Parts) (h : List Event) (s : Spot) → IsLegal w h → are_distinct_tasks (cuts_at w h s) ≡ true
-cuts_distinct w h (Site b k) legal = refl
-cuts_distinct w h (Branch b) legal = of_option (placement w b)
-  where
-    apart : (i : ℕ) → are_distinct_tasks (waiting w h i) ≡ true
-    apart i = distinct-filter (λ u. not (has_task (ever_admitted h ++ cut h) u)) _ (some_once (λ (f : Firing). is_branch_where w (is_placement_in i) f.spot) (firings h) (fired_once w h legal))
-
-    of_option : (o : Option Placement) → are_distinct_tasks (option_map_or (λ (z : Placement). if is_teardown z.branch.group then waiting w h z.domain else []) o []) ≡ true
-    of_option None = refl
-    of_option (Some z) = of_test (is_teardown z.branch.group)
-      where
-        of_test : (c : Bool) → are_distinct_tasks (if c then waiting w h z.domain else []) ≡ true
-        of_test true = apart z.domain
-        of_test false = refl
 
 module _ (w : Parts) (n : ℕ) (lacks : Lacks) (es : List Entry) (holds : Holds w n lacks es) where
   abbrev h : List Event

@@ -23,19 +23,15 @@ use Rattle.ccr_places.specs.declared.notes.Note.{Note}
 use Rattle.ccr_places.specs.declared.notes.Note.TheVariants as notes
 use Rattle.ccr_places.specs.Arbiters.{ArbiterState}
 use Rattle.ccr_places.specs.Arbiters as arbiters
+use Rattle.ccr_places.specs.NotedTasks.{noted_fired}
 use Rattle.ccr_runs.specs.declared.entries.Entry.{Entry}
 use Rattle.ccr_runs.specs.Places.{arbiter_after}
 use Rattle.ccr_runs.specs.EntryRuns.{notes_at, note_at, same_place}
 use Rattle.ccr_runs.specs.Visible.{visible, event_of, shown}
 use Rattle.ccr_net.proofs.Parts.OneMoreEntry.{visible-push, notes_at-push}
 
--- the task that the note says fired
-abbrev pub fired_note : Note → List TaskId
-fired_note (notes.Fired task spot messages cuts) = task ∷ []
-fired_note _ = []
-
 abbrev pub fired_there : List Note → List TaskId
-fired_there earlier = flat_map fired_note earlier
+fired_there earlier = flat_map noted_fired earlier
 
 -- whether the branch is of the arbiter's domain
 abbrev pub is_of : ℕ → Placement → Bool
@@ -66,7 +62,7 @@ ArbitersMatch-push w es e h shows alike match i =
 
 -- ---- the steps
 
-no_firing : (a : ℕ) (note : Note) → flat_map firing_of (shown a note) ≡ [] → fired_note note ≡ []
+no_firing : (a : ℕ) (note : Note) → flat_map firing_of (shown a note) ≡ [] → noted_fired note ≡ []
 no_firing a (notes.Fired t s ms cs) none = absurd (cc)
 no_firing a (notes.Post m) none = refl
 no_firing a (notes.Claim t s r) none = refl
@@ -122,7 +118,7 @@ pub record KeepsShape (before after : ArbiterState) (more : List TaskId) : Type 
 unchanged : (st : ArbiterState) → KeepsShape st st []
 unchanged st = record { fired = sym (append-nil st.fired); once = refl; first = refl; count = refl }
 
-after_shape : (st : ArbiterState) (note : Note) → KeepsShape st (arbiters.after st note) (fired_note note)
+after_shape : (st : ArbiterState) (note : Note) → KeepsShape st (arbiters.after st note) (noted_fired note)
 after_shape st (notes.Fired t s ms cs) = record { fired = refl; once = refl; first = refl; count = refl }
 after_shape st (notes.Over t r how) = record { fired = sym (append-nil st.fired); once = refl; first = refl; count = refl }
 after_shape st (notes.Post m) = unchanged st
@@ -146,7 +142,7 @@ kept_shape st (note ∷ earlier) =
     let one = after_shape st note in
     let rest = kept_shape (arbiters.after st note) earlier in
     record {
-      fired = rest.fired ∙ ap (λ ts. ts ++ fired_there earlier) one.fired ∙ append_assoc st.fired (fired_note note) (fired_there earlier);
+      fired = rest.fired ∙ ap (λ ts. ts ++ fired_there earlier) one.fired ∙ append_assoc st.fired (noted_fired note) (fired_there earlier);
       once = rest.once ∙ one.once;
       first = rest.first ∙ one.first;
       count = rest.count ∙ one.count;

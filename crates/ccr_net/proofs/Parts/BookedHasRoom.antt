@@ -27,21 +27,22 @@ use Rattle.ccr_model.proofs.Allowing.{OneName-legal}
 use Rattle.ccr_model.proofs.AllowedFirings.{fired_by_named}
 use Rattle.ccr_model.proofs.Members.{Among, Among-either}
 use Rattle.ccr_model.proofs.OneMoreEvent.{firings-push, put-push, cut-push}
-use Rattle.ccr_model.proofs.SameNames.{same_task-is, same_task-self}
+use Rattle.ccr_base.proofs.SameNames.{same_task-is, same_task-self, same_task-sym}
 use Rattle.ccr_model.proofs.TasksLeft.{of_without, out_left, distinct-filter}
 use Rattle.ccr_model.proofs.TaskLists.{to_filter, to_without, not_within, of_more, of_one, out_right}
 use Rattle.ccr_model.proofs.WhoWasPut.{QueuedFacts-queued}
 use Rattle.ccr_model.proofs.TasksOnce.{fired_once, some_once, some_of_all}
+use Rattle.ccr_model.proofs.LegalIsCovered.{no_member}
 use Rattle.ccr_places.specs.declared.notes.Note.{Note}
 use Rattle.ccr_places.specs.declared.notes.Note.TheVariants as notes
-use Rattle.ccr_places.specs.Queues.{QueueState, Queued}
+use Rattle.ccr_places.specs.Queues.{QueueState, Queued, queued_task}
 use Rattle.ccr_places.specs.Queues as queues
 use Rattle.ccr_claim.specs.declared.plan.Had.{Had}
 use Rattle.ccr_claim.specs.Plans.{resumes}
 use Rattle.ccr_claim.specs.Attempts.{Phase, booking, claiming}
 use Rattle.ccr_actor.specs.Actors.{State, name_at}
 use Rattle.ccr_net.proofs.Parts.TasksAreBookedOnce.{QueueSound, QueueSound-book, QueueSound-unbook, QueueSound-put, QueueSound-take, IsKept, in-more, in-less, kept_within}
-use Rattle.ccr_net.proofs.Parts.QueuesMatch.{QueueChanges, QueuesMatch, QueuesMatch-event, task_queued}
+use Rattle.ccr_net.proofs.Parts.QueuesMatch.{QueueChanges, QueuesMatch, QueuesMatch-event}
 
 abbrev pub is_for : ℕ → Placement → Bool
 is_for q s = s.branch.queue == q
@@ -77,9 +78,9 @@ among_drop zero xs x is = is
 among_drop (suc n) [] x is = is
 among_drop (suc n) (y ∷ xs) x is = inr (among_drop n xs x is)
 
-listed_task : (xs : List Queued) (x : Queued) → Among x xs → has_task (map task_queued xs) x.task ≡ true
+listed_task : (xs : List Queued) (x : Queued) → Among x xs → has_task (map queued_task xs) x.task ≡ true
 listed_task [] x is = absurd is
-listed_task (y ∷ xs) x (inl e) = ap (λ b. b || has_task (map task_queued xs) x.task) (ap (λ (z : Queued). same_task x.task z.task) (sym e) ∙ same_task-self x.task)
+listed_task (y ∷ xs) x (inl e) = ap (λ b. b || has_task (map queued_task xs) x.task) (ap (λ (z : Queued). same_task x.task z.task) (sym e) ∙ same_task-self x.task)
 listed_task (y ∷ xs) x (inr more) = or_right (same_task x.task y.task) _ (listed_task xs x more)
 
 -- who is queued was put
@@ -126,14 +127,6 @@ BookingsMatch-full w h queue queue' q n t resumes changes match = by resumes cha
     by true change = BookingsMatch-note w h queue queue' q (notes.Book t true (Some n)) change (match.sound q) (λ u fires uncut is. is) (λ x is. is) match
     by false change = BookingsMatch-note w h queue queue' q (notes.Book t false (Some n)) change (match.sound q) (λ u fires uncut is. is) (λ x is. is) match
 
--- out of what two tasks share
-apart : (ts : List TaskId) (t u : TaskId) → has_task ts t ≡ false → has_task ts u ≡ true → same_task u t ≡ false
-apart ts t u out is = of_test (same_task u t) refl
-  where
-    of_test : (b : Bool) → same_task u t ≡ b → same_task u t ≡ false
-    of_test false e = e
-    of_test true e = absurd (let there : has_task ts t ≡ true = subst (λ v. has_task ts v ≡ true) (same_task-is u t e) is in cc)
-
 -- who was fired for the queue was fired
 pub fired_of : (w : Parts) (h : List Event) (q : ℕ) (t : TaskId) → has_task (fired_for w h q) t ≡ true → has_task (fired h) t ≡ true
 fired_of w h q t is = some_of_all (λ (f : Firing). is_branch_where w (is_for q) f.spot) (firings h) t is
@@ -142,7 +135,7 @@ pub BookingsMatch-unbook : (w : Parts) (h : List Event) (queue queue' : ℕ → 
 BookingsMatch-unbook w h queue queue' q t gone changes match = BookingsMatch-note w h queue queue' q (notes.Unbook t) changes (QueueSound-unbook (queue q) t (match.sound q)) (λ u fires uncut is. in-less (queue q).fresh t u ∙ rw (other u gone fires uncut, is) refl) (λ x is. is) match
   where
     other : (u : TaskId) → (has_task (fired h) t ≡ false) ⊎ (has_task (cut h) t ≡ true) → has_task (fired_for w h q) u ≡ true → has_task (cut h) u ≡ false → same_task u t ≡ false
-    other u (inl unfired) fires uncut = apart (fired h) t u unfired (fired_of w h q u fires)
+    other u (inl unfired) fires uncut = same_task-sym u t ∙ no_member (fired h) t u unfired (fired_of w h q u fires)
     other u (inr cut_so) fires uncut = refuted (same_task u t) (λ is. no_both (subst (λ v. has_task (cut h) v ≡ true) (sym (same_task-is u t is)) cut_so) uncut)
 
 pub BookingsMatch-take : (w : Parts) (h : List Event) (queue queue' : ℕ → QueueState) (q : ℕ) (d : Option TaskId) → QueueChanges queue queue' q (notes.Take d) → BookingsMatch w h queue → BookingsMatch w h queue'
@@ -215,11 +208,11 @@ BookingsMatch-put w h queue queue' q t d may unput uncut changes match = record 
 
 -- ---- room
 
-queued_as : (xs : List Queued) (t : TaskId) → has_task (map task_queued xs) t ≡ true → (x : Queued) × Among x xs × (x.task ≡ t)
+queued_as : (xs : List Queued) (t : TaskId) → has_task (map queued_task xs) t ≡ true → (x : Queued) × Among x xs × (x.task ≡ t)
 queued_as [] t is = absurd (cc)
 queued_as (y ∷ xs) t is = of_test (same_task t y.task) refl is (queued_as xs t)
   where
-    of_test : (b : Bool) → same_task t y.task ≡ b → b || has_task (map task_queued xs) t ≡ true → (has_task (map task_queued xs) t ≡ true → (x : Queued) × Among x xs × (x.task ≡ t)) → (x : Queued) × Among x (y ∷ xs) × (x.task ≡ t)
+    of_test : (b : Bool) → same_task t y.task ≡ b → b || has_task (map queued_task xs) t ≡ true → (has_task (map queued_task xs) t ≡ true → (x : Queued) × Among x xs × (x.task ≡ t)) → (x : Queued) × Among x (y ∷ xs) × (x.task ≡ t)
     of_test true e now rest = (y, inl refl, sym (same_task-is t y.task e))
     of_test false e now rest = let found = rest now in (found.0, inr found.1, found.2)
 

@@ -34,34 +34,28 @@ use Rattle.ccr_model.proofs.AllowedFirings.{firing_named-new, FiresSo-allowed, B
 use Rattle.ccr_model.proofs.Members.{Among, Among-either}
 use Rattle.ccr_model.proofs.OneMoreEvent.{ever_admitted-push}
 use Rattle.ccr_model.proofs.Roots.{AdmittedFacts-admitted}
-use Rattle.ccr_model.proofs.SameNames.{same_task-is, same_task-self}
+use Rattle.ccr_base.proofs.SameNames.{same_task-is, same_task-self}
 use Rattle.ccr_model.proofs.TaskLists.{without_other, without_first, of_more, of_one, has_oldest, none_gone}
 use Rattle.ccr_model.proofs.WhoWasPut.{placement_by}
 use Rattle.ccr_model.proofs.TasksOnce.{waiting_once, waits_in_one}
 use Rattle.ccr_model.specs.Consequences.{are_distinct_tasks}
+use Rattle.ccr_model.proofs.WaitingTasks.{waiting-admit}
 use Rattle.ccr_places.specs.declared.notes.Note.{Note}
 use Rattle.ccr_places.specs.declared.notes.Note.TheVariants as notes
-use Rattle.ccr_places.specs.Interleaves.{InterleaveState, Waiting, group_among, group_at}
+use Rattle.ccr_places.specs.Interleaves.{InterleaveState, Waiting, group_among, group_at, waiting_task}
 use Rattle.ccr_places.specs.Interleaves as interleaves
 use Rattle.ccr_places.specs.TaskSets.{TaskSet, len-there}
 use Rattle.ccr_actor.specs.Plans.{is_interleave_number}
 use Rattle.ccr_runs.specs.declared.entries.Entry.{Entry}
-use Rattle.ccr_runs.specs.Places.{interleave_after, branches_from, groups_in}
-use Rattle.ccr_runs.specs.EntryRuns.{notes_at, same_place}
+use Rattle.ccr_runs.specs.Places.{branches_from, groups_in}
+use Rattle.ccr_runs.specs.EntryRuns.{same_place, domain_at}
 use Rattle.ccr_net.proofs.Kept.EventsAreAllowed.{refused_pass}
 use Rattle.ccr_net.proofs.Parts.TasksAreBookedOnce.{in-more, in-less}
-use Rattle.ccr_net.proofs.Parts.EventsChangeDomains.{spot_stays, fired_by-fire, fired_by-same, waiting-same, waiting-admit, waiting-fire, waiting_apart, all_gone, admitted_before, concurrent_stays}
-
--- the domain of this number
-abbrev pub domain_at : Parts → List Entry → ℕ → InterleaveState
-domain_at w es i = interleave_after w i (notes_at es (places.Arbiter i))
+use Rattle.ccr_net.proofs.Parts.EventsChangeDomains.{spot_stays, fired_by-fire, fired_by-same, waiting-same, waiting-fire, waiting_apart, all_gone, admitted_before, concurrent_stays}
 
 -- a teardown branch of the domain
 abbrev pub tears : ℕ → Placement → Bool
 tears i s = (s.domain == i) && is_teardown s.branch.group
-
-abbrev pub waiting_task : Waiting → TaskId
-waiting_task x = x.task
 
 -- the domain keeps the root, by whether its branch is concurrent
 abbrev pub IsKeptRoot : Bool → InterleaveState → TaskId → Type 0

@@ -21,16 +21,15 @@ use Rattle.ccr_model.specs.Tasks.{is_branch_where, fired_by, waiting, admitted, 
 use Rattle.ccr_model.proofs.Allowing.{OneName-legal}
 use Rattle.ccr_model.proofs.ExclusiveRootsAreAlone.{over_stays, lasts_fired, ever_admitted_fired}
 use Rattle.ccr_base.proofs.Booleans.{refuted, no_both, or_left, or_right, eq-self}
-use Rattle.ccr_model.proofs.Cutting.{fired_by-append, cut_by}
-use Rattle.ccr_model.proofs.FiredTasks.{IsFired, IsFired-append, fired_has, placement_stays}
+use Rattle.ccr_model.proofs.Cutting.{fired_by-append, cut_by, cut_fired}
+use Rattle.ccr_model.proofs.FiredTasks.{IsFired, fired_has, placement_stays}
 use Rattle.ccr_model.proofs.AllowedFirings.{FiresSo-allowed}
-use Rattle.ccr_model.proofs.LegalParts.{along_legal}
 use Rattle.ccr_model.proofs.OneMoreEvent.{firings-push, ever_admitted-push, cut-push, last-push}
 use Rattle.ccr_model.proofs.Roots.{AdmittedFacts-admitted, admitted_whole}
-use Rattle.ccr_model.proofs.SameNames.{same_task-is, same_task-self}
+use Rattle.ccr_base.proofs.SameNames.{same_task-is, same_task-self}
 use Rattle.ccr_model.proofs.Stable.{firing_named-append}
-use Rattle.ccr_model.proofs.TasksLeft.{without_both, without_middle}
-use Rattle.ccr_model.proofs.TaskLists.{without-append, without_none, of_more, not_more, not_within}
+use Rattle.ccr_model.proofs.TasksLeft.{without_both}
+use Rattle.ccr_model.proofs.TaskLists.{without-append, without_none, not_more, not_within}
 use Rattle.ccr_model.proofs.TasksOnce.{waits_in_one}
 
 -- ---- where tasks fired
@@ -42,21 +41,6 @@ spot_stays h es t s is = of_option (firing_named h t) refl is
     of_option : (o : Option Firing) → firing_named h t ≡ o → option_map (λ (f : Firing). f.spot) o ≡ Some s → spot_of (h ++ es) t ≡ Some s
     of_option None e none = absurd (cc)
     of_option (Some f) e some = ap (option_map (λ (g : Firing). g.spot)) (firing_named-append h es t f e) ∙ some
-
--- who was cut had fired
-pub cut_fired : (w : Parts) (h : List Event) → IsLegal w h → (t : TaskId) → has_task (cut h) t ≡ true → IsFired h t
-cut_fired w h legal = along_legal w (λ g. (t : TaskId) → has_task (cut g) t ≡ true → IsFired g t) kept (λ t is. absurd (cc)) h legal
-  where
-    kept : (g : List Event) (e : Event) → IsLegal w g → IsAllowed w g e → ((t : TaskId) → has_task (cut g) t ≡ true → IsFired g t) → (t : TaskId) → has_task (cut (g ++ e ∷ [])) t ≡ true → IsFired (g ++ e ∷ []) t
-    kept g e known allowed old t is = IsFired-append g (e ∷ []) t (of_more (cut g) (cut (e ∷ [])) t (IsFired g t) (subst (λ ts. has_task ts t ≡ true) (cut-push g e) is) (old t) (of_event e allowed))
-      where
-        of_event : (ev : Event) → IsAllowed w g ev → has_task (cut (ev ∷ [])) t ≡ true → IsFired g t
-        of_event (events.Fire u s ms cs) may new = let waits = cut_by w g u s ms cs (OneName-legal w g known) may t new in (waits.1.firing, waits.1.is_firing)
-        of_event (events.Post m) may new = absurd (cc)
-        of_event (events.Admit u) may new = absurd (cc)
-        of_event (events.Put u d) may new = absurd (cc)
-        of_event (events.Start u a) may new = absurd (cc)
-        of_event (events.End u how) may new = absurd (cc)
 
 -- whom a firing cuts had fired
 pub cuts_fired : (w : Parts) (h : List Event) (t : TaskId) (s : Spot) (ms : List MsgId) (cs : List TaskId) → IsLegal w h → IsAllowed w h (events.Fire t s ms cs) → (u : TaskId) → has_task cs u ≡ true → IsFired h u
@@ -82,12 +66,6 @@ waiting-same w h e i fires admits =
     let entered : ever_admitted (h ++ e ∷ []) ≡ ever_admitted h = ever_admitted-push h e ∙ ap (λ ts. ever_admitted h ++ ts) admits ∙ append-nil (ever_admitted h) in
     let gone : cut (h ++ e ∷ []) ≡ cut h = ap (λ (fs : List Firing). flat_map (λ (f : Firing). f.cuts) fs) (firings-push h e ∙ ap (λ fs. firings h ++ fs) fires ∙ append-nil (firings h)) in
     ap (λ ts. without ts (ever_admitted (h ++ e ∷ []) ++ cut (h ++ e ∷ []))) firing ∙ ap (λ ts. without (fired_by w (is_placement_in i) h) (ts ++ cut (h ++ e ∷ []))) entered ∙ ap (λ ts. without (fired_by w (is_placement_in i) h) (ever_admitted h ++ ts)) gone
-
-pub waiting-admit : (w : Parts) (h : List Event) (t : TaskId) (i : ℕ) → waiting w (h ++ events.Admit t ∷ []) i ≡ without (waiting w h i) (t ∷ [])
-waiting-admit w h t i =
-    let firing = fired_by-same w (is_placement_in i) h (events.Admit t) refl in
-    let gone : cut (h ++ events.Admit t ∷ []) ≡ cut h = cut-push h (events.Admit t) ∙ append-nil (cut h) in
-    ap (λ ts. without ts (ever_admitted (h ++ events.Admit t ∷ []) ++ cut (h ++ events.Admit t ∷ []))) firing ∙ ap (λ ts. without (fired_by w (is_placement_in i) h) (ts ++ cut (h ++ events.Admit t ∷ []))) (ever_admitted-push h (events.Admit t)) ∙ ap (λ ts. without (fired_by w (is_placement_in i) h) ((ever_admitted h ++ t ∷ []) ++ ts)) gone ∙ without_middle (fired_by w (is_placement_in i) h) (ever_admitted h) (cut h) t
 
 pub waiting-fire : (w : Parts) (h : List Event) (t : TaskId) (spot : Spot) (ms : List MsgId) (cs : List TaskId) (i : ℕ) → IsLegal w h → IsAllowed w h (events.Fire t spot ms cs) → waiting w (h ++ events.Fire t spot ms cs ∷ []) i ≡ without (waiting w h i) cs ++ (if is_branch_where w (is_placement_in i) spot then t ∷ [] else [])
 waiting-fire w h t spot ms cs i legal allowed =

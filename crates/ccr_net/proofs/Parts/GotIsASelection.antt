@@ -26,7 +26,7 @@ use Rattle.ccr_base.proofs.Booleans.{or_left}
 use Rattle.ccr_model.proofs.Members.{Among, Among-map}
 use Rattle.ccr_model.proofs.PostNames.{AreNamed}
 use Rattle.ccr_model.proofs.OneMoreEvent.{fired-fire}
-use Rattle.ccr_model.proofs.SameNames.{same_task-is}
+use Rattle.ccr_base.proofs.SameNames.{same_task-is}
 use Rattle.ccr_model.proofs.MessageNames.{any_fits}
 use Rattle.ccr_model.proofs.Allowing.{split_both}
 use Rattle.ccr_places.specs.Ports.{PortState}

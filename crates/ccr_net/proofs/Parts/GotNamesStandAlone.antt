@@ -16,7 +16,7 @@ use Rattle.ccr_model.specs.Selection.{selection_of_slots}
 use Rattle.ccr_base.proofs.Booleans.{same_number, eq-self, or_left, or_right, either}
 use Rattle.ccr_model.proofs.Members.{Among}
 use Rattle.ccr_model.proofs.PostNames.{AreNamed}
-use Rattle.ccr_model.proofs.SameNames.{same_task-is, same_message-self}
+use Rattle.ccr_base.proofs.SameNames.{same_task-is, same_message-self}
 use Rattle.ccr_places.specs.declared.claims.StandingClaim.{StandingClaim}
 use Rattle.ccr_places.specs.Ports.{PortState, first_fitting}
 use Rattle.ccr_claim.specs.declared.plan.Had.{Had}

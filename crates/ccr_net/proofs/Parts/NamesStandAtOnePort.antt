@@ -9,7 +9,7 @@ use Rattle.ccr_base.specs.Names.{same_message, has_message}
 use Rattle.ccr_model.specs.declared.history.Event.{Event}
 use Rattle.ccr_model.specs.Posts.{posts, held, posted, taken}
 use Rattle.ccr_model.proofs.PostNames.{times, AreNamed, place_of, sent_by}
-use Rattle.ccr_model.proofs.SameNames.{same_message-sym}
+use Rattle.ccr_base.proofs.SameNames.{same_message-sym}
 use Rattle.ccr_net.proofs.Parts.PostsKeepMarks.{has_name, has_name-filter}
 
 -- whether a message of the name was posted to the port

@@ -1,29 +1,24 @@
 -- What one more entry adds, and the induction over runs.
-use Rattle.std.proofs.Common.{◌≡◌, ◌⊎◌, inl, inr, ◌<◌, ◌≤◌, ℕ, zero, suc, ◌+◌, Bool, true, false, List, [], ◌∷◌, ◌++◌, length, take, drop, Option, Some, None, refl, sym, arith, ap, ◌∙◌, subst, append_assoc, append-nil, length-append}
+use Rattle.std.proofs.Common.{◌≡◌, ◌⊎◌, inl, inr, ◌<◌, ◌≤◌, ℕ, ◌+◌, Bool, true, false, List, [], ◌∷◌, ◌++◌, length, take, drop, Option, Some, None, refl, sym, arith, ap, ◌∙◌, subst, append_assoc, append-nil, length-append}
 use Rattle.std.specs.Prelude.{◌==◌, if◌then◌else◌, nat_le}
 use Rattle.std.specs.Option.{option_map, option_and_then}
 use Rattle.std.proofs.lemmas.Grind.{common_steps}
 use Rattle.std.proofs.lemmas.Bool.Decides.{nat_tests}
-use Rattle.std.proofs.lemmas.List.{drop-append-le}
+use Rattle.std.proofs.lemmas.List.{drop-append-le, take-append-le, take_all, drop_all}
 use Rattle.ccr_base.specs.declared.names.Place.{Place}
 use Rattle.ccr_base.specs.declared.names.Place.TheVariants as places
 use Rattle.ccr_wiring.specs.declared.parts.Parts.{Parts}
 use Rattle.ccr_places.specs.declared.notes.Note.{Note}
 use Rattle.ccr_places.specs.Ports as ports
 use Rattle.ccr_places.specs.Queues as queues
-use Rattle.ccr_places.specs.Queues.{QueueState}
 use Rattle.ccr_claim.specs.declared.asks.Reply.{Reply}
 use Rattle.ccr_claim.specs.declared.asks.Asked.{Asked}
 use Rattle.ccr_actor.specs.Actors.{State, asked, after, after_all, shorten, start, state_after}
 use Rattle.ccr_actor.proofs.ActorsFollowTheirSteps.{after-more}
 use Rattle.ccr_runs.specs.declared.entries.Entry.{Entry}
 use Rattle.ccr_runs.specs.Visible.{visible, event_of}
-use Rattle.ccr_runs.specs.Places.{note_of, queue_after}
-use Rattle.ccr_runs.specs.EntryRuns.{Lacks, IsRunAfter, made_by, entry_for, next_stamp, notes_at, note_at, port_at, replies_from, replies_of, reply_of, reply_for, state_of, same_place}
-
--- the queue of this number
-abbrev pub queue_at : Parts → List Entry → ℕ → QueueState
-queue_at w es number = queue_after w number (notes_at es (places.Queue number))
+use Rattle.ccr_runs.specs.Places.{note_of}
+use Rattle.ccr_runs.specs.EntryRuns.{Lacks, IsRunAfter, made_by, entry_for, next_stamp, notes_at, note_at, port_at, replies_from, replies_of, reply_of, reply_for, state_of, same_place, queue_at}
 
 pub visible-push : (es : List Entry) (e : Entry) → visible (es ++ e ∷ []) ≡ visible es ++ event_of e
 visible-push es e = grind (arith, common_steps)
@@ -44,23 +39,6 @@ replies_from-push w a past (x ∷ es) e = rw (replies_from-push w a (past ++ x �
 pub replies_of-push : (w : Parts) (a : ℕ) (es : List Entry) (e : Entry) → replies_of w (es ++ e ∷ []) a ≡ replies_of w es a ++ reply_for w a es e
 replies_of-push w a es e = replies_from-push w a [] es e
 
-take-before : {X : Type 0} (n : ℕ) (xs ys : List X) → n ≤ length xs → take n (xs ++ ys) ≡ take n xs
-take-before zero xs ys low = refl
-take-before (suc n) [] ys low = absurd (omega arith)
-take-before (suc n) (x ∷ xs) ys low = ap (λ front. x ∷ front) (take-before n xs ys (omega arith))
-
-pub take-whole : {X : Type 0} (n : ℕ) (xs : List X) → length xs ≤ n → take n xs ≡ xs
-take-whole zero [] low = refl
-take-whole zero (x ∷ xs) low = absurd (omega arith)
-take-whole (suc n) [] low = refl
-take-whole (suc n) (x ∷ xs) low = ap (λ front. x ∷ front) (take-whole n xs (omega arith))
-
-drop-whole : {X : Type 0} (n : ℕ) (xs : List X) → length xs ≤ n → drop n xs ≡ []
-drop-whole zero [] low = refl
-drop-whole zero (x ∷ xs) low = absurd (omega arith)
-drop-whole (suc n) [] low = refl
-drop-whole (suc n) (x ∷ xs) low = drop-whole n xs (omega arith)
-
 -- the actor of the entry goes on, and may find no memory then; the others stay
 abbrev pub IsNextState : Parts → ℕ → State → Reply → State → Type 0
 IsNextState w a st r next = (next ≡ after w a st r) ⊎ (next ≡ shorten w a (after w a st r))
@@ -79,10 +57,10 @@ state_after-push w a (Some n) rs r = by (nat_le n (length rs)) (nat_le n (length
     short_at given = after_all w a (shorten w a (after_all w a begun (take n given))) (drop n given)
 
     by : (b c : Bool) → nat_le n (length rs) ≡ b → nat_le n (length (rs ++ r ∷ [])) ≡ c → IsNextState w a (if b then short_at rs else after_all w a begun rs) r (if c then short_at (rs ++ r ∷ []) else after_all w a begun (rs ++ r ∷ []))
-    by true true before now = inl (let low : n ≤ length rs = grind (arith, nat_tests, before) in rw (take-before n rs (r ∷ []) low, drop-append-le n rs (r ∷ []) low) (after-more w a (shorten w a (after_all w a begun (take n rs))) (drop n rs) r))
+    by true true before now = inl (let low : n ≤ length rs = grind (arith, nat_tests, before) in rw (take-append-le n rs (r ∷ []) low, drop-append-le n rs (r ∷ []) low) (after-more w a (shorten w a (after_all w a begun (take n rs))) (drop n rs) r))
     by true false before now = absurd (let low : n ≤ length rs = grind (arith, nat_tests, before) in let high : length (rs ++ r ∷ []) < n = grind (arith, nat_tests, now) in omega (arith, low, high, longer))
     by false false before now = inl (after-more w a begun rs r)
-    by false true before now = inr (let all : length (rs ++ r ∷ []) ≤ n = (let high : length rs < n = grind (arith, nat_tests, before) in omega (arith, high, longer)) in rw (take-whole n (rs ++ r ∷ []) all, drop-whole n (rs ++ r ∷ []) all) (ap (shorten w a) (after-more w a begun rs r)))
+    by false true before now = inr (let all : length (rs ++ r ∷ []) ≤ n = (let high : length rs < n = grind (arith, nat_tests, before) in omega (arith, high, longer)) in rw (take_all n (rs ++ r ∷ []) all, drop_all n (rs ++ r ∷ []) all) (ap (shorten w a) (after-more w a begun rs r)))
 
 pub state_of-own : (w : Parts) (lacks : Lacks) (es : List Entry) (e : Entry) (a : ℕ) → (e.actor == a) ≡ true → IsNextState w a (state_of w lacks es a) (reply_of w es e) (state_of w lacks (es ++ e ∷ []) a)
 state_of-own w lacks es e a is = rw (replies_of-push w a es e, is) (state_after-push w a (lacks a) (replies_of w es a) (reply_of w es e))

@@ -1,12 +1,9 @@
 -- What ties ports, claims and hands after some entries to the history that they show.
 use Rattle.std.proofs.Common.{◌≡◌, ◌<◌, ◌≤◌, ℕ, ◌⊎◌, ◌||◌, true, false, List, [], ◌∷◌, length, flat_map, Some}
-use Rattle.std.specs.Prelude.{if◌then◌else◌}
-use Rattle.std.specs.Option.{option_map_or}
 use Rattle.ccr_base.specs.declared.names.MsgId.{MsgId}
 use Rattle.ccr_base.specs.declared.names.Place.{Place}
 use Rattle.ccr_base.specs.declared.names.Place.TheVariants as places
 use Rattle.ccr_base.specs.declared.names.TaskId.{TaskId}
-use Rattle.ccr_base.specs.declared.messages.Msg.{Msg}
 use Rattle.ccr_base.specs.declared.tasks.How.{How}
 use Rattle.ccr_base.specs.declared.tasks.How.TheVariants as hows
 use Rattle.ccr_base.specs.Names.{has_task, has_message}
@@ -20,7 +17,7 @@ use Rattle.ccr_model.specs.Tasks.{is_over}
 use Rattle.ccr_model.proofs.Members.{Among}
 use Rattle.ccr_model.proofs.FiredTasks.{IsFired}
 use Rattle.ccr_places.specs.declared.claims.StandingClaim.{StandingClaim}
-use Rattle.ccr_places.specs.Ports.{PortState, first_fitting, without_first}
+use Rattle.ccr_places.specs.Ports.{PortState, first_fitting, unmarked_by}
 use Rattle.ccr_claim.specs.declared.asks.Ask.{Ask}
 use Rattle.ccr_claim.specs.declared.asks.Ask.TheVariants as asks
 use Rattle.ccr_claim.specs.declared.plan.Had.{Had}
@@ -29,10 +26,6 @@ use Rattle.ccr_claim.specs.Attempts.{had_in}
 use Rattle.ccr_actor.specs.Actors.{State, name_at}
 use Rattle.ccr_runs.specs.Views.{queue_of}
 use Rattle.ccr_net.proofs.Parts.PostsKeepMarks.{has_name}
-
--- the items, less the marked ones where the claim is of a task that has fired
-abbrev pub unmarked_by : List TaskId → PortState → List Msg
-unmarked_by gone port = option_map_or (λ (c : StandingClaim). if has_task gone c.task then without_first c.count c.pred port.items else port.items) port.claim port.items
 
 -- the ports
 pub record PortsMatch (history : List Event) (port : ℕ → PortState) : Type 0 where

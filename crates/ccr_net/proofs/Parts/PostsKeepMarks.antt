@@ -9,9 +9,10 @@ use Rattle.ccr_base.specs.declared.patterns.Pred.{Pred}
 use Rattle.ccr_base.specs.Selection.{holds, fitting}
 use Rattle.ccr_base.specs.Names.{same_message, has_message}
 use Rattle.ccr_places.specs.Ports.{first_fitting, without_first}
+use Rattle.ccr_places.proofs.FirstFitting.{without_first-none}
 use Rattle.ccr_claim.specs.Plans.{names_of}
 use Rattle.ccr_model.proofs.PostNames.{times}
-use Rattle.ccr_model.proofs.SameNames.{same_message-self, same_message-sym}
+use Rattle.ccr_base.proofs.SameNames.{same_message-self, same_message-sym}
 
 -- whether a message of the name is among them
 abbrev pub has_name : List Msg → MsgId → Bool
@@ -117,14 +118,6 @@ filter-none : (ms : List Msg) → filter (λ (m : Msg). not (has_message [] m.id
 filter-none [] = refl
 filter-none (m ∷ ms) = rw (filter-none ms) refl
 
-without_none : (pred : Pred) (ms : List Msg) → without_first zero pred ms ≡ ms
-without_none pred [] = refl
-without_none pred (m ∷ ms) = by (holds pred m.value) (without_none pred ms)
-  where
-    by : (b : Bool) → without_first zero pred ms ≡ ms → (if b && false then without_first zero pred ms else m ∷ without_first zero pred ms) ≡ m ∷ ms
-    by true rest = rw rest refl
-    by false rest = rw rest refl
-
 once_less : (m : Msg) (ms : List Msg) → ((name : MsgId) → times name (m ∷ ms) ≤ 1) → (name : MsgId) → times name ms ≤ 1
 once_less m ms once name = by (same_message m.id name) (once name)
   where
@@ -137,7 +130,7 @@ once_here m ms once = none_named ms m.id (let le = once m.id in let self = same_
 
 -- where each name stands once, to take out the marked messages is to leave out their names
 pub without_first-names : (n : ℕ) (pred : Pred) (ms : List Msg) → ((name : MsgId) → times name ms ≤ 1) → without_first n pred ms ≡ filter (λ (m : Msg). not (has_message (names_of (first_fitting n pred ms)) m.id)) ms
-without_first-names zero pred ms once = without_none pred ms ∙ sym (filter-none ms)
+without_first-names zero pred ms once = without_first-none pred ms ∙ sym (filter-none ms)
 without_first-names (suc n) pred [] once = refl
 without_first-names (suc n) pred (m ∷ ms) once = step-some n pred m ms ∙ by (holds pred m.value) (without_first-names n pred ms (once_less m ms once)) (without_first-names (suc n) pred ms (once_less m ms once))
   where

@@ -20,21 +20,18 @@ use Rattle.ccr_model.specs.Tasks.{queued, is_for_queue}
 use Rattle.ccr_model.specs.Legal.{IsLegal}
 use Rattle.ccr_base.proofs.Booleans.{same_number, eq-self, refuted}
 use Rattle.ccr_base.proofs.Options.{some_of}
-use Rattle.ccr_model.proofs.SameNames.{same_task-is}
+use Rattle.ccr_base.proofs.SameNames.{same_task-is}
 use Rattle.ccr_model.proofs.TaskSteps.{queued-put, queued-start}
 use Rattle.ccr_model.proofs.TaskLists.{without_other, without_first, not_more, not_within, has_oldest, none_gone}
 use Rattle.ccr_model.proofs.WhoWasPut.{ArePlaced-legal, QueuedFacts-queued}
 use Rattle.ccr_model.proofs.Queued.{queued_once}
 use Rattle.ccr_places.specs.declared.notes.Note.{Note}
 use Rattle.ccr_places.specs.declared.notes.Note.TheVariants as notes
-use Rattle.ccr_places.specs.Queues.{QueueState, Queued}
+use Rattle.ccr_places.specs.Queues.{QueueState, Queued, queued_task}
 use Rattle.ccr_places.specs.Queues as queues
 
-abbrev pub task_queued : Queued → TaskId
-task_queued q = q.task
-
 pub record QueuesMatch (w : Parts) (h : List Event) (queue : ℕ → QueueState) : Type 0 where
-  pub queued_so : (q : ℕ) → map task_queued (queue q).queued ≡ queued w h q
+  pub queued_so : (q : ℕ) → map queued_task (queue q).queued ≡ queued w h q
   pub policy_so : (q : ℕ) → (queue q).policy ≡ policy_of w q
 
 -- the queue of this number takes the note, the others stay
@@ -79,8 +76,8 @@ QueuesMatch-note w h queue queue' q note changes same rule match = record {
   policy_so = λ k. rw (changes k) (of_rule k (q == k)) ∙ match.policy_so k;
 }
   where
-    by : (k : ℕ) (b : Bool) → map task_queued (if b then queues.after (queue k) note else queue k).queued ≡ map task_queued (queue k).queued
-    by k true = ap (map task_queued) (same k)
+    by : (k : ℕ) (b : Bool) → map queued_task (if b then queues.after (queue k) note else queue k).queued ≡ map queued_task (queue k).queued
+    by k true = ap (map queued_task) (same k)
     by k false = refl
 
     of_rule : (k : ℕ) (b : Bool) → (if b then queues.after (queue k) note else queue k).policy ≡ (queue k).policy
@@ -90,7 +87,7 @@ QueuesMatch-note w h queue queue' q note changes same rule match = record {
 pub QueuesMatch-event : (w : Parts) (h : List Event) (e : Event) (queue : ℕ → QueueState) → ((q : ℕ) → queued w (h ++ e ∷ []) q ≡ queued w h q) → QueuesMatch w h queue → QueuesMatch w (h ++ e ∷ []) queue
 QueuesMatch-event w h e queue same match = record { queued_so = λ q. match.queued_so q ∙ sym (same q); policy_so = match.policy_so }
 
-map-last : (qs : List Queued) (q : Queued) → map task_queued (qs ++ q ∷ []) ≡ map task_queued qs ++ q.task ∷ []
+map-last : (qs : List Queued) (q : Queued) → map queued_task (qs ++ q ∷ []) ≡ map queued_task qs ++ q.task ∷ []
 map-last qs q = grind (arith, common_steps)
 
 -- what a put drops: nothing, or the oldest
@@ -118,16 +115,16 @@ drops queue = by queue.policy refl
             of_list (x ∷ qs) some = drops_first x qs some (rw (is, e) (rw some refl)) (rw (one, some) refl)
 
 -- the rule drops the same
-drop_same : (p : Policy) (qs : List Queued) → drop_by p (map task_queued qs) ≡ (if nat_le 1 (queues.overflow p (length qs)) then option_map task_queued (slice_get qs 0) else None)
+drop_same : (p : Policy) (qs : List Queued) → drop_by p (map queued_task qs) ≡ (if nat_le 1 (queues.overflow p (length qs)) then option_map queued_task (slice_get qs 0) else None)
 drop_same Unbounded qs = refl
 drop_same (Throttle n) qs = refl
-drop_same (Discard n) qs = rw (length-map qs task_queued) (of_test (nat_le n (length qs)))
+drop_same (Discard n) qs = rw (length-map qs queued_task) (of_test (nat_le n (length qs)))
   where
-    heads : (xs : List Queued) → slice_get (map task_queued xs) 0 ≡ option_map task_queued (slice_get xs 0)
+    heads : (xs : List Queued) → slice_get (map queued_task xs) 0 ≡ option_map queued_task (slice_get xs 0)
     heads [] = refl
     heads (x ∷ xs) = refl
 
-    of_test : (b : Bool) → (if b then slice_get (map task_queued qs) 0 else None) ≡ (if nat_le 1 (if b then 1 else 0) then option_map task_queued (slice_get qs 0) else None)
+    of_test : (b : Bool) → (if b then slice_get (map queued_task qs) 0 else None) ≡ (if nat_le 1 (if b then 1 else 0) then option_map queued_task (slice_get qs 0) else None)
     of_test true = heads qs
     of_test false = refl
 
@@ -140,11 +137,11 @@ QueuesMatch-put w h queue queue' q t legal new own changes match = record {
   policy_so = λ k. rw (changes k) (of_rule k (q == k)) ∙ match.policy_so k;
 }
   where
-    list_of : (first : Queued) (others : List Queued) → (queue q).queued ≡ first ∷ others → queued w h q ≡ first.task ∷ map task_queued others
-    list_of first others is = sym (match.queued_so q) ∙ ap (map task_queued) is
+    list_of : (first : Queued) (others : List Queued) → (queue q).queued ≡ first ∷ others → queued w h q ≡ first.task ∷ map queued_task others
+    list_of first others is = sym (match.queued_so q) ∙ ap (map queued_task) is
 
     oldest_there : (first : Queued) (others : List Queued) → (queue q).queued ≡ first ∷ others → has_task (queued w h q) first.task ≡ true
-    oldest_there first others is = has_oldest (queued w h q) (map task_queued others) first.task (list_of first others is)
+    oldest_there first others is = has_oldest (queued w h q) (map queued_task others) first.task (list_of first others is)
 
     fresh : has_task (started h ++ (dropped h ++ option_to_list (queues.put_note (queue q)))) t ≡ false
     fresh = put_fresh w h t (queues.put_note (queue q)) legal new (of_drops (drops (queue q)))
@@ -157,20 +154,20 @@ QueuesMatch-put w h queue queue' q t legal new own changes match = record {
             inside y z is = cc
 
     -- what is left at each queue
-    left : (k : ℕ) → without (queued w h k) (option_to_list (queues.put_note (queue q))) ≡ (if q == k then map task_queued (drop (queues.drop_count (queue q)) (queue q).queued) else queued w h k)
+    left : (k : ℕ) → without (queued w h k) (option_to_list (queues.put_note (queue q))) ≡ (if q == k then map queued_task (drop (queues.drop_count (queue q)) (queue q).queued) else queued w h k)
     left k = of_drops (drops (queue q)) (q == k) refl
       where
-        of_drops : Drops (queue q) → (b : Bool) → (q == k) ≡ b → without (queued w h k) (option_to_list (queues.put_note (queue q))) ≡ (if b then map task_queued (drop (queues.drop_count (queue q)) (queue q).queued) else queued w h k)
+        of_drops : Drops (queue q) → (b : Bool) → (q == k) ≡ b → without (queued w h k) (option_to_list (queues.put_note (queue q))) ≡ (if b then map queued_task (drop (queues.drop_count (queue q)) (queue q).queued) else queued w h k)
         of_drops (drops_none none rest) true e = rw (none, rest) (none_gone (queued w h k) ∙ ap (queued w h) (sym (same_number q k e)) ∙ sym (match.queued_so q))
         of_drops (drops_none none rest) false e = rw none (none_gone (queued w h k))
-        of_drops (drops_first first others qs some rest) true e = rw (some, rest) (ap (λ ts. without ts (first.task ∷ [])) (ap (queued w h) (sym (same_number q k e)) ∙ list_of first others qs) ∙ without_first (map task_queued others) first.task (ap are_distinct_tasks (sym (list_of first others qs)) ∙ queued_once w h q legal))
+        of_drops (drops_first first others qs some rest) true e = rw (some, rest) (ap (λ ts. without ts (first.task ∷ [])) (ap (queued w h) (sym (same_number q k e)) ∙ list_of first others qs) ∙ without_first (map queued_task others) first.task (ap are_distinct_tasks (sym (list_of first others qs)) ∙ queued_once w h q legal))
         of_drops (drops_first first others qs some rest) false e = rw some (without_other (queued w h k) first.task (refuted (has_task (queued w h k) first.task) (λ is. apart (one_queue w h q k first.task (oldest_there first others qs) is) e)))
           where
             apart : q ≡ k → (q == k) ≡ false → ⊥
             apart same out = let self : (q == k) ≡ true = subst (λ n. (q == n) ≡ true) same (eq-self q) in absurd (cc)
 
-    by : (k : ℕ) (b : Bool) → (q == k) ≡ b → map task_queued (if b then queues.after_put (queue k) t else queue k).queued ≡ without (queued w h k) (option_to_list (queues.put_note (queue q))) ++ (if is_for_queue w h k t then t ∷ [] else [])
-    by k true e = rw (left k, own k, e) (subst (λ n. map task_queued (queues.after_put (queue n) t).queued ≡ map task_queued (drop (queues.drop_count (queue q)) (queue q).queued) ++ t ∷ []) (same_number q k e) (map-last (drop (queues.drop_count (queue q)) (queue q).queued) _))
+    by : (k : ℕ) (b : Bool) → (q == k) ≡ b → map queued_task (if b then queues.after_put (queue k) t else queue k).queued ≡ without (queued w h k) (option_to_list (queues.put_note (queue q))) ++ (if is_for_queue w h k t then t ∷ [] else [])
+    by k true e = rw (left k, own k, e) (subst (λ n. map queued_task (queues.after_put (queue n) t).queued ≡ map queued_task (drop (queues.drop_count (queue q)) (queue q).queued) ++ t ∷ []) (same_number q k e) (map-last (drop (queues.drop_count (queue q)) (queue q).queued) _))
     by k false e = rw (left k, own k, e) (match.queued_so k ∙ sym (append-nil (queued w h k)))
 
     of_rule : (k : ℕ) (b : Bool) → (if b then queues.after_put (queue k) t else queue k).policy ≡ (queue k).policy
@@ -187,7 +184,7 @@ pub record Takes (queue : QueueState) (t : TaskId) : Type 0 where
 pub takes : (queue : QueueState) (t : TaskId) → queues.take_note queue ≡ Some t → Takes queue t
 takes queue t is = of_list queue.queued refl is
   where
-    of_list : (qs : List Queued) → queue.queued ≡ qs → option_map task_queued (slice_get qs 0) ≡ Some t → Takes queue t
+    of_list : (qs : List Queued) → queue.queued ≡ qs → option_map queued_task (slice_get qs 0) ≡ Some t → Takes queue t
     of_list [] e is = absurd (cc)
     of_list (x ∷ others) e is = record { first = x; others = others; queued_so = e; is_first = cc }
 
@@ -197,17 +194,17 @@ QueuesMatch-take w h queue queue' q a t legal first changes match = record {
   policy_so = λ k. rw (changes k) (of_rule k (q == k)) ∙ match.policy_so k;
 }
   where
-    list : queued w h q ≡ t ∷ map task_queued first.others
-    list = sym (match.queued_so q) ∙ rw first.queued_so (ap (λ x. x ∷ map task_queued first.others) first.is_first)
+    list : queued w h q ≡ t ∷ map queued_task first.others
+    list = sym (match.queued_so q) ∙ rw first.queued_so (ap (λ x. x ∷ map queued_task first.others) first.is_first)
 
     there : has_task (queued w h q) t ≡ true
-    there = has_oldest (queued w h q) (map task_queued first.others) t list
+    there = has_oldest (queued w h q) (map queued_task first.others) t list
 
-    rest : map task_queued (queues.after_take (queue q)).queued ≡ without (queued w h q) (t ∷ [])
-    rest = rw first.queued_so refl ∙ sym (ap (λ ts. without ts (t ∷ [])) list ∙ without_first (map task_queued first.others) t (ap are_distinct_tasks (sym list) ∙ queued_once w h q legal))
+    rest : map queued_task (queues.after_take (queue q)).queued ≡ without (queued w h q) (t ∷ [])
+    rest = rw first.queued_so refl ∙ sym (ap (λ ts. without ts (t ∷ [])) list ∙ without_first (map queued_task first.others) t (ap are_distinct_tasks (sym list) ∙ queued_once w h q legal))
 
-    by : (k : ℕ) (b : Bool) → (q == k) ≡ b → map task_queued (if b then queues.after_take (queue k) else queue k).queued ≡ without (queued w h k) (t ∷ [])
-    by k true e = subst (λ n. map task_queued (queues.after_take (queue n)).queued ≡ without (queued w h n) (t ∷ [])) (same_number q k e) rest
+    by : (k : ℕ) (b : Bool) → (q == k) ≡ b → map queued_task (if b then queues.after_take (queue k) else queue k).queued ≡ without (queued w h k) (t ∷ [])
+    by k true e = subst (λ n. map queued_task (queues.after_take (queue n)).queued ≡ without (queued w h n) (t ∷ [])) (same_number q k e) rest
     by k false e = match.queued_so k ∙ sym (without_other (queued w h k) t (refuted (has_task (queued w h k) t) (λ is. apart (one_queue w h q k t there is) e)))
       where
         apart : q ≡ k → (q == k) ≡ false → ⊥

@@ -25,12 +25,8 @@ use Rattle.ccr_places.specs.declared.notes.Note.TheVariants as notes
 use Rattle.ccr_places.specs.Sites.{SiteState}
 use Rattle.ccr_places.specs.Sites as sites
 use Rattle.ccr_runs.specs.declared.entries.Entry.{Entry}
-use Rattle.ccr_runs.specs.Places.{site_after}
-use Rattle.ccr_runs.specs.EntryRuns.{notes_at, same_place}
+use Rattle.ccr_runs.specs.EntryRuns.{same_place, site_at}
 use Rattle.ccr_runs.specs.Visible.{visible, event_of, shown}
-
-abbrev pub site_at : List Entry → ℕ → ℕ → SiteState
-site_at es b k = site_after b k (notes_at es (places.Site b k))
 
 -- at each site
 abbrev pub SitesMatch : List Event → List Entry → Type 0

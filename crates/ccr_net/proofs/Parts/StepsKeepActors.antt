@@ -22,16 +22,16 @@ use Rattle.ccr_model.specs.Rules.{needs_no_admission}
 use Rattle.ccr_model.specs.Tasks.{is_over}
 use Rattle.ccr_model.proofs.Allowing.{OneName-legal}
 use Rattle.ccr_model.proofs.ExclusiveRootsAreAlone.{over_stays, lasts_fired}
-use Rattle.ccr_model.proofs.Cutting.{cut_by}
+use Rattle.ccr_model.proofs.Cutting.{cut_by, cut_fired}
 use Rattle.ccr_model.proofs.AllowedFirings.{firing_named-new, waits_outside}
 use Rattle.ccr_model.proofs.Stable.{firing_named-append}
 use Rattle.ccr_model.proofs.TaskLists.{among_left, among_right, not_more, not_within, of_more, of_one}
 use Rattle.ccr_base.proofs.Booleans.{same_number, eq-self, refuted, no_both}
-use Rattle.ccr_model.proofs.TasksLeft.{has_task-append}
+use Rattle.ccr_model.proofs.TasksLeft.{has_task-append, has_task-last}
 use Rattle.ccr_model.proofs.FiredTasks.{IsFired, fired_has, placement_stays}
 use Rattle.ccr_model.proofs.Members.{Among, Among-left, Among-right, Among-either}
 use Rattle.ccr_model.proofs.OneMoreEvent.{firings-push, fired-fire, put-push, cut-push, ever_admitted-push}
-use Rattle.ccr_model.proofs.SameNames.{same_task-is, same_task-self}
+use Rattle.ccr_base.proofs.SameNames.{same_task-is, same_task-self}
 use Rattle.ccr_places.specs.declared.claims.StandingClaim.{StandingClaim}
 use Rattle.ccr_places.specs.declared.notes.ClaimNote.TheVariants.{Got}
 use Rattle.ccr_places.specs.declared.notes.Note.TheVariants as notes
@@ -46,8 +46,8 @@ use Rattle.ccr_actor.specs.Plans.{plan_of}
 use Rattle.ccr_actor.specs.Actors.{State, name_at, end_attempt, shorten, in_attempt, fire, give_up}
 use Rattle.ccr_runs.specs.Views.{queue_of}
 use Rattle.ccr_net.proofs.Parts.PortsAndHandsMatch.{IsOwed, IsOwedOver, IsToPut, ActorMatches, put_in, puts_in, claim_for}
-use Rattle.ccr_net.proofs.Parts.EventsChangeDomains.{cut_fired, cuts_fired}
-use Rattle.ccr_net.proofs.Parts.StepsKeepPorts.{Changes, has_task-last}
+use Rattle.ccr_net.proofs.Parts.EventsChangeDomains.{cuts_fired}
+use Rattle.ccr_net.proofs.Parts.StepsKeepPorts.{Changes}
 
 pub Among-last : {X : Type 0} (xs : List X) (x : X) → Among x (xs ++ x ∷ [])
 Among-last xs x = Among-right x xs (x ∷ []) (inl refl)

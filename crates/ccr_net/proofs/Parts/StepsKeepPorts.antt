@@ -18,17 +18,18 @@ use Rattle.ccr_base.proofs.Booleans.{same_number, or_left, or_right}
 use Rattle.ccr_model.proofs.HeldSteps.{held-post, held-fire}
 use Rattle.ccr_model.proofs.OneMoreEvent.{fired-fire}
 use Rattle.ccr_model.proofs.PostNames.{times, AreNamed}
-use Rattle.ccr_model.proofs.SameNames.{same_task-self, same_message-self}
+use Rattle.ccr_base.proofs.SameNames.{same_message-self}
 use Rattle.ccr_model.proofs.MessageNames.{has_message-append}
 use Rattle.ccr_model.proofs.TakenOnce.{times-filter}
+use Rattle.ccr_model.proofs.TasksLeft.{has_task-last}
 use Rattle.ccr_places.specs.declared.claims.StandingClaim.{StandingClaim}
 use Rattle.ccr_places.specs.declared.notes.ClaimNote.TheVariants.{Got}
 use Rattle.ccr_places.specs.declared.notes.Note.{Note}
 use Rattle.ccr_places.specs.declared.notes.Note.TheVariants as notes
-use Rattle.ccr_places.specs.Ports.{PortState, first_fitting, without_first}
+use Rattle.ccr_places.specs.Ports.{PortState, first_fitting, without_first, unmarked_by}
 use Rattle.ccr_places.specs.Ports as ports
 use Rattle.ccr_claim.specs.Plans.{names_of}
-use Rattle.ccr_net.proofs.Parts.PortsAndHandsMatch.{unmarked_by, PortsMatch}
+use Rattle.ccr_net.proofs.Parts.PortsAndHandsMatch.{PortsMatch}
 use Rattle.ccr_net.proofs.Parts.PostsKeepMarks.{has_name, has_name-append, enough-post, without_first-post, without_first-names, without_first-named}
 
 -- the port of this number takes the note, the others stay
@@ -165,9 +166,6 @@ unmarked-other gone port t other = of_claim port.claim refl
     of_claim : (o : Option StandingClaim) → port.claim ≡ o → option_map_or (λ (c : StandingClaim). if has_task (gone ++ t ∷ []) c.task then without_first c.count c.pred port.items else port.items) o port.items ≡ option_map_or (λ (c : StandingClaim). if has_task gone c.task then without_first c.count c.pred port.items else port.items) o port.items
     of_claim None e = refl
     of_claim (Some c) e = let apart = other c e in let same : has_task (gone ++ t ∷ []) c.task ≡ has_task gone c.task = grind (arith, common_steps, apart) in rw same refl
-
-pub has_task-last : (ts : List TaskId) (t : TaskId) → has_task (ts ++ t ∷ []) t ≡ true
-has_task-last ts t = grind (arith, common_steps, same_task-self t)
 
 -- what is held has names of its own
 pub held_once : (h : List Event) (p : ℕ) (name : MsgId) → AreNamed (posts h) → times name (held h p) ≤ 1

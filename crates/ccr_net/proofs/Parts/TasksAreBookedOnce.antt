@@ -11,7 +11,7 @@ use Rattle.ccr_base.specs.Names.{same_task, has_task}
 use Rattle.ccr_model.specs.Consequences.{are_distinct_tasks}
 use Rattle.ccr_base.proofs.Booleans.{both, neither, not_true, or_right, and_false}
 use Rattle.ccr_model.proofs.Members.{Among}
-use Rattle.ccr_model.proofs.SameNames.{same_task-is, same_task-self}
+use Rattle.ccr_base.proofs.SameNames.{same_task-is, same_task-self}
 use Rattle.ccr_places.specs.Queues.{QueueState, Queued}
 use Rattle.ccr_places.specs.Queues as queues
 use Rattle.ccr_places.specs.TaskSets.{TaskSet, task_cmp, task_cmp_total, eq_by_cmp-tasks, len-there}

@@ -1,9 +1,8 @@
 -- Who started a task, along a legal history: one actor, once, and before its end.
-use Rattle.std.proofs.Common.{◌≡◌, ℕ, Bool, true, false, List, [], ◌∷◌, ◌++◌, flat_map, refl, sym, arith, ap, ◌∙◌, subst, append-nil}
+use Rattle.std.proofs.Common.{◌≡◌, ℕ, Bool, true, false, List, [], ◌∷◌, ◌++◌, refl, sym, arith, ap, ◌∙◌, subst, append-nil}
 use Rattle.std.specs.Prelude.{◌==◌, if◌then◌else◌}
-use Rattle.std.proofs.lemmas.Grind.{common_steps}
 use Rattle.ccr_base.specs.declared.names.TaskId.{TaskId}
-use Rattle.ccr_base.specs.Names.{has_task, without}
+use Rattle.ccr_base.specs.Names.{has_task}
 use Rattle.ccr_wiring.specs.declared.parts.Parts.{Parts}
 use Rattle.ccr_model.specs.declared.history.Event.{Event}
 use Rattle.ccr_model.specs.declared.history.Event.TheVariants as events
@@ -13,20 +12,11 @@ use Rattle.ccr_model.specs.Legal.{IsAllowed, IsLegal}
 use Rattle.ccr_base.proofs.Booleans.{same_number, no_both}
 use Rattle.ccr_model.proofs.OneMoreEvent.{started-push, ended-push}
 use Rattle.ccr_model.proofs.PostNames.{along, refused_not}
-use Rattle.ccr_model.proofs.SameNames.{same_task-self}
+use Rattle.ccr_base.proofs.SameNames.{same_task-self}
 use Rattle.ccr_model.proofs.TasksLeft.{of_without}
 use Rattle.ccr_model.proofs.TaskLists.{of_more, of_one, among_left, to_without}
 use Rattle.ccr_model.proofs.WhoWasPut.{StartFacts-allowed, StartFacts-queued}
-
--- the tasks that the actor started
-abbrev pub starts : List Event → ℕ → List TaskId
-starts h a = flat_map (started_as a) h
-
-pub starts-push : (h : List Event) (e : Event) (a : ℕ) → starts (h ++ e ∷ []) a ≡ starts h a ++ started_as a e
-starts-push h e a = grind (arith, common_steps)
-
-pub running_by-push : (h : List Event) (e : Event) (a : ℕ) → running_by (h ++ e ∷ []) a ≡ without (starts h a ++ started_as a e) (ended h ++ ended_by e)
-running_by-push h e a = rw (starts-push h e a, ended-push h e) refl
+use Rattle.ccr_model.proofs.RunningTasks.{starts, starts-push}
 
 starts_started : (h : List Event) (a : ℕ) (t : TaskId) → has_task (starts h a) t ≡ true → has_task (started h) t ≡ true
 starts_started [] a t is = is
@@ -41,26 +31,26 @@ starts_started (events.Admit u ∷ h) a t is = starts_started h a t is
 starts_started (events.Put u d ∷ h) a t is = starts_started h a t is
 starts_started (events.End u how ∷ h) a t is = starts_started h a t is
 
-pub record AreStarted (h : List Event) : Type 0 where
+pub record AreStartedOnce (h : List Event) : Type 0 where
   pub by_one : (a b : ℕ) (t : TaskId) → has_task (starts h a) t ≡ true → has_task (starts h b) t ≡ true → a ≡ b
   pub ended_so : (t : TaskId) → has_task (ended h) t ≡ true → has_task (started h) t ≡ true
 
-AreStarted-other : (h : List Event) (e : Event) → ((a : ℕ) → started_as a e ≡ []) → ended_by e ≡ [] → started_by e ≡ [] → AreStarted h → AreStarted (h ++ e ∷ [])
-AreStarted-other h e none no_end no_start known = record {
+AreStartedOnce-other : (h : List Event) (e : Event) → ((a : ℕ) → started_as a e ≡ []) → ended_by e ≡ [] → started_by e ≡ [] → AreStartedOnce h → AreStartedOnce (h ++ e ∷ [])
+AreStartedOnce-other h e none no_end no_start known = record {
   by_one = λ a b t at_a at_b. known.by_one a b t (rw (starts-push h e a, none a, append-nil (starts h a)) at at_a) (rw (starts-push h e b, none b, append-nil (starts h b)) at at_b);
   ended_so = λ t is. rw (started-push, no_start, append-nil (started h)) (known.ended_so t (rw (ended-push, no_end, append-nil (ended h)) at is));
 }
 
-AreStarted-kept : (w : Parts) (h : List Event) (e : Event) → AreStarted h → IsAllowed w h e → AreStarted (h ++ e ∷ [])
-AreStarted-kept w h (events.Post m) known allowed = AreStarted-other h (events.Post m) (λ a. refl) refl refl known
-AreStarted-kept w h (events.Fire u s ms cs) known allowed = AreStarted-other h (events.Fire u s ms cs) (λ a. refl) refl refl known
-AreStarted-kept w h (events.Admit u) known allowed = AreStarted-other h (events.Admit u) (λ a. refl) refl refl known
-AreStarted-kept w h (events.Put u d) known allowed = AreStarted-other h (events.Put u d) (λ a. refl) refl refl known
-AreStarted-kept w h (events.End u how) known allowed = record {
+AreStartedOnce-kept : (w : Parts) (h : List Event) (e : Event) → AreStartedOnce h → IsAllowed w h e → AreStartedOnce (h ++ e ∷ [])
+AreStartedOnce-kept w h (events.Post m) known allowed = AreStartedOnce-other h (events.Post m) (λ a. refl) refl refl known
+AreStartedOnce-kept w h (events.Fire u s ms cs) known allowed = AreStartedOnce-other h (events.Fire u s ms cs) (λ a. refl) refl refl known
+AreStartedOnce-kept w h (events.Admit u) known allowed = AreStartedOnce-other h (events.Admit u) (λ a. refl) refl refl known
+AreStartedOnce-kept w h (events.Put u d) known allowed = AreStartedOnce-other h (events.Put u d) (λ a. refl) refl refl known
+AreStartedOnce-kept w h (events.End u how) known allowed = record {
   by_one = λ a b t at_a at_b. known.by_one a b t (rw (starts-push, append-nil (starts h a)) at at_a) (rw (starts-push, append-nil (starts h b)) at at_b);
   ended_so = λ t is. rw (started-push, append-nil (started h)) (of_more (ended h) (u ∷ []) t (has_task (started h) t ≡ true) (rw ended-push at is) (known.ended_so t) (λ one. subst (λ x. has_task (started h) x ≡ true) (sym (of_one u t one)) (of_without (started h) (ended h) u (refused_not (has_task (running h) u) _ _ allowed).0).0));
 }
-AreStarted-kept w h (events.Start u c) known allowed = record {
+AreStartedOnce-kept w h (events.Start u c) known allowed = record {
   by_one = λ a b t at_a at_b. one a b t (rw starts-push at at_a) (rw starts-push at at_b);
   ended_so = λ t is. rw started-push (among_left (started h) (u ∷ []) t (known.ended_so t (rw (ended-push, append-nil (ended h)) at is)));
 }
@@ -83,11 +73,11 @@ AreStarted-kept w h (events.Start u c) known allowed = record {
         (λ old_a. of_more (starts h b) (started_as b (events.Start u c)) t (a ≡ b) at_b (λ old_b. known.by_one a b t old_a old_b) (λ new_b. absurd (fresh a (subst (λ x. has_task (starts h a) x ≡ true) (here b t new_b).1 old_a))))
         (λ new_a. of_more (starts h b) (started_as b (events.Start u c)) t (a ≡ b) at_b (λ old_b. absurd (fresh b (subst (λ x. has_task (starts h b) x ≡ true) (here a t new_a).1 old_b))) (λ new_b. sym (here a t new_a).0 ∙ (here b t new_b).0))
 
-pub AreStarted-legal : (w : Parts) (h : List Event) → IsLegal w h → AreStarted h
-AreStarted-legal w h legal = along w AreStarted (AreStarted-kept w) (record { by_one = λ a b t is also. absurd (cc); ended_so = λ t is. absurd (cc) }) h legal
+pub AreStartedOnce-legal : (w : Parts) (h : List Event) → IsLegal w h → AreStartedOnce h
+AreStartedOnce-legal w h legal = along w AreStartedOnce (AreStartedOnce-kept w) (record { by_one = λ a b t is also. absurd (cc); ended_so = λ t is. absurd (cc) }) h legal
 
 -- two actors run different tasks
-pub run_apart : (h : List Event) (a b : ℕ) (t u : TaskId) → AreStarted h → running_by h a ≡ t ∷ [] → running_by h b ≡ u ∷ [] → t ≡ u → a ≡ b
+pub run_apart : (h : List Event) (a b : ℕ) (t u : TaskId) → AreStartedOnce h → running_by h a ≡ t ∷ [] → running_by h b ≡ u ∷ [] → t ≡ u → a ≡ b
 run_apart h a b t u known at_a at_b same = known.by_one a b t (there a t at_a) (subst (λ x. has_task (starts h b) x ≡ true) (sym same) (there b u at_b))
   where
     there : (a : ℕ) (t : TaskId) → running_by h a ≡ t ∷ [] → has_task (starts h a) t ≡ true

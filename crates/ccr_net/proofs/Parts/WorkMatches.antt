@@ -22,12 +22,12 @@ use Rattle.ccr_model.specs.Tasks.{running_by, started_as}
 use Rattle.ccr_base.proofs.Booleans.{same_number, eq-self}
 use Rattle.ccr_model.proofs.FiredTasks.{IsFired, IsFired-append}
 use Rattle.ccr_model.proofs.OneMoreEvent.{posts-push}
-use Rattle.ccr_model.proofs.SameNames.{same_task-is, same_task-self}
+use Rattle.ccr_base.proofs.SameNames.{same_task-is, same_task-self}
 use Rattle.ccr_model.proofs.Stable.{firing_named-append, root_at-append, load_at-append}
 use Rattle.ccr_actor.specs.Actors.{Work, lines, round, taking, playing, posting, shedding, resting, play_in}
 use Rattle.ccr_runs.specs.Views.{view}
-use Rattle.ccr_net.proofs.Parts.TasksStartOnce.{starts, running_by-push, AreStarted, run_apart}
-use Rattle.ccr_model.proofs.TasksLeft.{without_both}
+use Rattle.ccr_net.proofs.Parts.TasksStartOnce.{AreStartedOnce, run_apart}
+use Rattle.ccr_model.proofs.RunningTasks.{running_by-end, starts, running_by-push}
 
 -- the task that a worker runs, how many of its posts are made, and those that are left
 pub record RunsTask (w : Parts) (h : List Event) (a : ℕ) (task : Task) (index : ℕ) (left : List Sent) : Type 0 where
@@ -136,7 +136,7 @@ script_says h m a b k id other = record {
     no_more t ms = let gone : is_message_of t m.id ≡ false = rw id refl in grind (arith, common_steps, gone)
 
 -- a post of a task that another actor runs
-pub task_says : (h : List Event) (m : Msg) (a b k : ℕ) (u : TaskId) → AreStarted h → m.id ≡ names.Task u k → running_by h b ≡ u ∷ [] → (b ≢ a) → SaysSame h (events.Post m) a
+pub task_says : (h : List Event) (m : Msg) (a b k : ℕ) (u : TaskId) → AreStartedOnce h → m.id ≡ names.Task u k → running_by h b ≡ u ∷ [] → (b ≢ a) → SaysSame h (events.Post m) a
 task_says h m a b k u known id runs other = record {
   script = rw (posts-push h (events.Post m)) (more (posts h));
   none = λ is. same ∙ is;
@@ -179,11 +179,8 @@ start_says h u a b other = record {
     same : running_by (h ++ events.Start u b ∷ []) a ≡ running_by h a
     same = running_by-push h (events.Start u b) a ∙ rw (out, append-nil (starts h a), append-nil (ended h)) refl
 
-pub running_by-end : (h : List Event) (u : TaskId) (how : EndHow) (a : ℕ) → running_by (h ++ events.End u how ∷ []) a ≡ without (running_by h a) (u ∷ [])
-running_by-end h u how a = running_by-push h (events.End u how) a ∙ rw (append-nil (starts h a)) (without_both (starts h a) (ended h) (u ∷ []))
-
 -- the end of a task that another actor runs
-pub end_says : (h : List Event) (u : TaskId) (how : EndHow) (a b : ℕ) → AreStarted h → running_by h b ≡ u ∷ [] → (b ≢ a) → SaysSame h (events.End u how) a
+pub end_says : (h : List Event) (u : TaskId) (how : EndHow) (a b : ℕ) → AreStartedOnce h → running_by h b ≡ u ∷ [] → (b ≢ a) → SaysSame h (events.End u how) a
 end_says h u how a b known runs other = record {
   script = rw (posts-push h (events.End u how), append-nil (posts h)) refl;
   none = λ is. running_by-end h u how a ∙ rw is refl;

@@ -1,5 +1,5 @@
 -- The task of a commit, where it fires, is what the visible history then tells of it.
-use Rattle.std.proofs.Common.{◌≡◌, ◌⊎◌, inl, inr, ◌≤◌, ◌^◌, ℕ, Bool, true, false, List, [], ◌∷◌, ◌++◌, length, map, filter, flat_map, find, Some, refl, sym, arith, ap, ◌∙◌, subst}
+use Rattle.std.proofs.Common.{◌≡◌, ◌⊎◌, inl, inr, ◌^◌, ℕ, Bool, true, false, List, [], ◌∷◌, ◌++◌, length, map, flat_map, Some, refl, sym, arith, ap, ◌∙◌, subst}
 use Rattle.std.specs.Prelude.{◌==◌, ◌||◌, if◌then◌else◌, nat_lt}
 use Rattle.std.specs.Option.{option_map, option_map_or}
 use Rattle.std.proofs.lemmas.Grind.{common_steps}
@@ -14,7 +14,7 @@ use Rattle.ccr_base.specs.declared.names.Spot.TheVariants.{Branch, Site}
 use Rattle.ccr_base.specs.declared.names.TaskId.{TaskId}
 use Rattle.ccr_base.specs.declared.patterns.Pattern.{Pattern}
 use Rattle.ccr_base.specs.declared.tasks.Task.{Task}
-use Rattle.ccr_base.specs.Names.{same_message, same_spot, has_task}
+use Rattle.ccr_base.specs.Names.{same_spot, has_task}
 use Rattle.ccr_cause.specs.Causes.{union, with_cause}
 use Rattle.ccr_handler.specs.declared.segments.PlayEnd.{PlayEnd}
 use Rattle.ccr_handler.specs.declared.segments.PlayEnd.TheVariants as plays
@@ -31,12 +31,11 @@ use Rattle.ccr_model.proofs.AllowedFirings.{before-new, firing_named-new}
 use Rattle.ccr_model.proofs.Members.{Among, Among-either, Among-take, Among-kept}
 use Rattle.ccr_base.proofs.Options.{some_of, some_map}
 use Rattle.ccr_base.specs.Lists.{has_number}
-use Rattle.ccr_model.proofs.PostNames.{AreNamed, times}
-use Rattle.ccr_model.proofs.SameNames.{same_message-self}
+use Rattle.ccr_model.proofs.PostNames.{AreNamed}
 use Rattle.ccr_model.proofs.Stable.{load_at-append, root_at-append}
 use Rattle.ccr_model.proofs.TaskLists.{has_oldest, has_task-drop}
 use Rattle.ccr_model.proofs.TasksLeft.{of_filter}
-use Rattle.ccr_model.proofs.MessageNames.{times_some}
+use Rattle.ccr_model.proofs.MessageNames.{found_once}
 use Rattle.ccr_places.specs.declared.notes.Note.TheVariants as notes
 use Rattle.ccr_places.specs.Ports.{PortState, first_fitting}
 use Rattle.ccr_await.specs.Resuming.{resumed}
@@ -49,7 +48,7 @@ use Rattle.ccr_actor.specs.Plans.{plan_of, pattern_at}
 use Rattle.ccr_actor.specs.Actors.{State, Work, lines, round, taking, playing, posting, shedding, resting, Turn, settle, admit, drive, go_on, stop, turn, ask_in, work_ask, play_ask, end_ask, name_at, spots_left}
 use Rattle.ccr_runs.specs.declared.entries.Entry.{Entry}
 use Rattle.ccr_runs.specs.EntryRuns.{Lacks, state_of, port_at}
-use Rattle.ccr_runs.specs.Views.{view}
+use Rattle.ccr_runs.specs.Views.{view, suspended_view}
 use Rattle.ccr_runs.specs.Visible.{visible, shown}
 use Rattle.ccr_net.proofs.Parts.StepsKeepActors.{unfired}
 use Rattle.ccr_net.proofs.Kept.WholeInvariant.{Holds, hand_settles, spots_drive}
@@ -57,27 +56,15 @@ use Rattle.ccr_net.proofs.Parts.GotIsASelection.{in_ports}
 use Rattle.ccr_net.proofs.Parts.PortsAndHandsMatch.{ActorMatches, IsOwed, PortsMatch}
 use Rattle.ccr_net.proofs.Parts.GotNamesStandAlone.{held_had}
 use Rattle.ccr_net.proofs.Parts.PhasesFitPlans.{SpotFits}
-use Rattle.ccr_net.proofs.Played.ObjectsFollowNotes.{suspended_view}
 use Rattle.ccr_net.proofs.Parts.OneMoreEntry.{Step, visible-push}
 use Rattle.ccr_net.proofs.Kept.ShownStepsKeepAll.{named_legal}
 
 -- ---- messages by their names
 
--- a message whose name stands once is found by it
-found_named : (ms : List Msg) (m : Msg) → times m.id ms ≤ 1 → Among m ms → find (λ (x : Msg). same_message x.id m.id) ms ≡ Some m
-found_named [] m once is = absurd is
-found_named (x ∷ ms) m once is = by (same_message x.id m.id) refl once is (found_named ms m)
-  where
-    by : (b : Bool) → same_message x.id m.id ≡ b → length (if b then x ∷ filter (λ (y : Msg). same_message y.id m.id) ms else filter (λ (y : Msg). same_message y.id m.id) ms) ≤ 1 → Among m (x ∷ ms) → (times m.id ms ≤ 1 → Among m ms → find (λ (y : Msg). same_message y.id m.id) ms ≡ Some m) → (if b then Some x else find (λ (y : Msg). same_message y.id m.id) ms) ≡ Some m
-    by true e few (inl same) rest = ap Some (sym same)
-    by true e few (inr there) rest = absurd (let some = times_some ms m there in omega (arith, some, few))
-    by false e few (inl same) rest = absurd (let self : same_message x.id m.id ≡ true = ap (λ (y : Msg). same_message y.id m.id) (sym same) ∙ same_message-self m.id in cc)
-    by false e few (inr there) rest = rest few there
-
 all_named : (h : List Event) (ms : List Msg) → AreNamed (posts h) → ((m : Msg) → Among m ms → Among m (posts h)) → messages_named h (names_of ms) ≡ ms
 all_named h [] named posted = refl
 all_named h (m ∷ ms) named posted =
-    let here : message_named h m.id ≡ Some m = found_named (posts h) m (named.once m.id) (posted m (inl refl)) in
+    let here : message_named h m.id ≡ Some m = found_once (posts h) m (posted m (inl refl)) (named.once m.id) in
     let rest = all_named h ms named (λ x is. posted x (inr is)) in
     rw (here, rest) refl
 

@@ -31,12 +31,12 @@ use Rattle.ccr_object.specs.Objects.{answer, after}
 use Rattle.ccr_actor.specs.Plans.{is_interleave_number}
 use Rattle.ccr_runs.specs.declared.entries.Entry.{Entry}
 use Rattle.ccr_runs.specs.Places.{branches_from, groups_in, note_of, note_at_arbiter, note_by_kind, interleave_note, commit_note}
-use Rattle.ccr_runs.specs.EntryRuns.{Lacks, notes_at, reply_to, same_place, waits}
+use Rattle.ccr_runs.specs.EntryRuns.{Lacks, notes_at, reply_to, same_place, waits, domain_at}
 use Rattle.ccr_runs.specs.Views.{view, cut_view}
 use Rattle.ccr_runs.specs.Visible.{visible, event_of}
 use Rattle.ccr_net.proofs.Kept.WholeInvariant.{Holds}
 use Rattle.ccr_net.proofs.Played.BuiltTasksAreTold.{IsBuilt}
-use Rattle.ccr_net.proofs.Parts.DomainsMatch.{domain_at, domain_at-push}
+use Rattle.ccr_net.proofs.Parts.DomainsMatch.{domain_at-push}
 use Rattle.ccr_net.proofs.Parts.NotesAnswerAsks.{Given, given_some}
 use Rattle.ccr_net.proofs.Kept.WhatWiringsHave.{PlainFacts}
 use Rattle.ccr_net.proofs.Played.OtherObjectsStay.{waiting_fired}

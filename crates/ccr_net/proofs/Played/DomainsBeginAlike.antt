@@ -21,9 +21,8 @@ use Rattle.ccr_object.specs.Starts.{start_at, fresh_arbiter, member_at, member_o
 use Rattle.ccr_actor.specs.Plans.{is_interleave_number}
 use Rattle.ccr_runs.specs.declared.entries.Entry.{Entry}
 use Rattle.ccr_runs.specs.Places.{branches_from, groups_in}
-use Rattle.ccr_runs.specs.EntryRuns.{notes_at}
+use Rattle.ccr_runs.specs.EntryRuns.{notes_at, domain_at}
 use Rattle.ccr_runs.specs.Visible.{visible}
-use Rattle.ccr_net.proofs.Parts.DomainsMatch.{domain_at}
 use Rattle.ccr_net.proofs.Kept.WhatWiringsHave.{PlainFacts}
 use Rattle.ccr_net.proofs.Played.ObjectsFollowNotes.{object_of, told_interleave, told_object}
 

@@ -34,11 +34,10 @@ use Rattle.ccr_actor.specs.Plans.{plan_of}
 use Rattle.ccr_actor.specs.Actors.{State, Work, lines, round, taking, playing, posting, shedding, resting, Turn, settle, admit, drive, go_on, stop, turn, ask_in, work_ask, play_ask, end_ask, name_at, play_in, spots_left, start, settled, after_admit, after_attempt, give_up, after_work, after_in, take_from, after_end, after_play, next_round, in_attempt, shorten}
 use Rattle.ccr_runs.specs.declared.entries.Entry.{Entry}
 use Rattle.ccr_runs.specs.EntryRuns.{Lacks, state_of, notes_at, reply_of, reply_to, waits}
-use Rattle.ccr_runs.specs.Views.{view, cut_view}
+use Rattle.ccr_runs.specs.Views.{view, cut_view, suspended_view}
 use Rattle.ccr_runs.specs.Visible.{visible, event_of}
 use Rattle.ccr_net.proofs.Kept.WholeInvariant.{Holds, IsBegun, begins, hand_settles}
 use Rattle.ccr_net.proofs.Parts.PortsAndHandsMatch.{IsOwed}
-use Rattle.ccr_net.proofs.Played.ObjectsFollowNotes.{suspended_view}
 use Rattle.ccr_net.proofs.Parts.OneMoreEntry.{IsNextState, Step, state_of-other, state_of-own, visible-push}
 use Rattle.ccr_net.proofs.Parts.WorkMatches.{WorkMatches, RunsTask, play-view, view-stays}
 

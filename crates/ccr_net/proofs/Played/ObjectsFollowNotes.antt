@@ -3,11 +3,8 @@
 use Rattle.std.proofs.Common.{◌≡◌, List, [], ◌∷◌, ◌++◌, Some}
 use Rattle.std.specs.Prelude.{map}
 use Rattle.ccr_base.specs.declared.names.Place.{Place}
-use Rattle.ccr_base.specs.declared.names.TaskId.{TaskId}
-use Rattle.ccr_base.specs.declared.tasks.Task.{Task}
 use Rattle.ccr_wiring.specs.declared.parts.Parts.{Parts}
 use Rattle.ccr_model.specs.declared.history.Event.{Event}
-use Rattle.ccr_model.specs.TaskData.{play_of}
 use Rattle.ccr_places.specs.declared.notes.Note.{Note}
 use Rattle.ccr_places.specs.Ports as ports
 use Rattle.ccr_places.specs.Arbiters as arbiters
@@ -26,12 +23,8 @@ use Rattle.ccr_object.specs.Objects.{answer, after}
 use Rattle.ccr_object.specs.Starts.{start_at}
 use Rattle.ccr_runs.specs.declared.entries.Entry.{Entry}
 use Rattle.ccr_runs.specs.EntryRuns.{notes_at, reply_of}
-use Rattle.ccr_runs.specs.Views.{view}
+use Rattle.ccr_runs.specs.Views.{view, suspended_view}
 use Rattle.ccr_runs.specs.Visible.{visible}
-
--- a suspended task, with the causes at the end of its play
-abbrev pub suspended_view : Parts → List Event → TaskId → Task
-suspended_view w h t = record (view w h t) { causes = (play_of w h t).causes }
 
 abbrev pub told_queue : Parts → List Event → QueueState → Object
 told_queue w h state = Queue (record { state = state; tasks = map (λ (q : Queued). view w h q.task) state.queued })

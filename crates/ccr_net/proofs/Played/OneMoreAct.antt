@@ -8,7 +8,7 @@ use Rattle.std.specs.declared.snapshot.Snapshot.{Snapshot}
 use Rattle.ccr_base.specs.declared.list.OutOfMemory.{OutOfMemory}
 use Rattle.ccr_base.specs.declared.names.Place.{Place}
 use Rattle.ccr_wiring.specs.declared.parts.Parts.{Parts}
-use Rattle.ccr_base.proofs.Booleans.{same_number, eq-self}
+use Rattle.ccr_base.proofs.Booleans.{same_number, differ}
 use Rattle.ccr_claim.specs.declared.asks.Ask.{Ask}
 use Rattle.ccr_object.specs.declared.deed.PlaceAnswer.{PlaceAnswer}
 use Rattle.ccr_object.specs.declared.deed.Deed.{Deed}
@@ -64,11 +64,6 @@ pub stamp-push : (actor last : ℕ) (acts : List (Act Deed)) (act : Act Deed) �
 stamp-push actor last [] act = refl
 stamp-push actor last (first ∷ acts) act = stamp-push actor (cond (first.seat == actor) first.stamp last) acts act
 
-pub differs : (n k : ℕ) → (n == k) ≡ false → k ≢ n
-differs n k is same =
-    let yes : (n == k) ≡ true = ap (λ m. n == m) same ∙ eq-self n in
-    cc
-
 module _ (w : Parts) (places : List Place) (objects later : List PlaceObject) (ps qs : List ℕ) (acts : List (Act Deed)) (number actor stamp : ℕ) (ask : Ask) (left : IsLeft w places objects ps qs acts) (low : number < length places) (seat : actor < 32) (is_stamp : stamp ≡ suc (max (slice_index ps number) (slice_index qs actor))) (same : length later ≡ length objects) (here : placed_in later number ≡ after_at (placed_in objects number) ask) (others : (k : ℕ) → k ≢ number → placed_in later k ≡ placed_in objects k) where
   abbrev act : Act Deed
   act = act_at (scene_after w acts) (stamp_of actor acts) number actor ask
@@ -81,21 +76,21 @@ module _ (w : Parts) (places : List Place) (objects later : List PlaceObject) (p
     where
       by : (b : Bool) → (number == k) ≡ b → placed_in later k ≡ (cond b (after_deed (scene_after w acts k).0 act.note, act.stamp) (scene_after w acts k)).0
       by true is = subst (λ n. placed_in later n ≡ after_at (scene_after w acts n).0 ask) (same_number number k is) (here ∙ ap (λ x. after_at x ask) (left.stand number))
-      by false is = others k (differs number k is) ∙ left.stand k
+      by false is = others k (λ same. differ number k is (sym same)) ∙ left.stand k
 
   place_last_so : (k : ℕ) → slice_index (slice_set ps number stamp) k ≡ (scene_after w (acts ++ act ∷ []) k).1
   place_last_so k = by (number == k) refl ∙ ap (λ (v : Scene Placed). (v k).1) (sym (scene-push (scene w) acts act))
     where
       by : (b : Bool) → (number == k) ≡ b → slice_index (slice_set ps number stamp) k ≡ (cond b (after_deed (scene_after w acts k).0 act.note, act.stamp) (scene_after w acts k)).1
       by true is = subst (λ n. slice_index (slice_set ps number stamp) n ≡ act.stamp) (same_number number k is) (get_or-set_same ps number stamp 0 (omega (arith, left.place_count)) ∙ stamp_so)
-      by false is = get_or-set_other ps number k stamp 0 (differs number k is) ∙ left.place_last k
+      by false is = get_or-set_other ps number k stamp 0 (λ same. differ number k is (sym same)) ∙ left.place_last k
 
   actor_last_so : (k : ℕ) → slice_index (slice_set qs actor stamp) k ≡ stamp_of k (acts ++ act ∷ [])
   actor_last_so k = by (actor == k) refl ∙ sym (stamp-push k 0 acts act)
     where
       by : (b : Bool) → (actor == k) ≡ b → slice_index (slice_set qs actor stamp) k ≡ cond b act.stamp (stamp_of k acts)
       by true is = subst (λ n. slice_index (slice_set qs actor stamp) n ≡ act.stamp) (same_number actor k is) (get_or-set_same qs actor stamp 0 (omega (arith, left.actor_count)) ∙ stamp_so)
-      by false is = get_or-set_other qs actor k stamp 0 (differs actor k is) ∙ left.actor_last k
+      by false is = get_or-set_other qs actor k stamp 0 (λ same. differ actor k is (sym same)) ∙ left.actor_last k
 
   few : stamp ≤ length (acts ++ act ∷ [])
   few = omega (arith, is_stamp, left.place_few number, left.actor_few actor, length-append acts (act ∷ []))
@@ -105,7 +100,7 @@ module _ (w : Parts) (places : List Place) (objects later : List PlaceObject) (p
     where
       by : (b : Bool) → (n == k) ≡ b → slice_index (slice_set ns n stamp) k ≤ length (acts ++ act ∷ [])
       by true is = subst (λ m. slice_index (slice_set ns n stamp) m ≤ length (acts ++ act ∷ [])) (same_number n k is) (omega (arith, get_or-set_same ns n stamp 0 inside, few))
-      by false is = omega (arith, get_or-set_other ns n k stamp 0 (differs n k is), all k, length-append acts (act ∷ []))
+      by false is = omega (arith, get_or-set_other ns n k stamp 0 (λ same. differ n k is (sym same)), all k, length-append acts (act ∷ []))
 
   pub IsLeft-act : IsLeft w places later (slice_set ps number stamp) (slice_set qs actor stamp) (acts ++ act ∷ [])
   IsLeft-act = record {

@@ -15,24 +15,24 @@ use Rattle.ccr_model.proofs.Allowing.{OneName-legal}
 use Rattle.ccr_model.proofs.FiredTasks.{IsFired}
 use Rattle.ccr_model.proofs.AllowedFirings.{fired_by_named}
 use Rattle.ccr_model.proofs.Members.{Among, Among-either}
-use Rattle.ccr_model.proofs.SameNames.{same_task-self}
+use Rattle.ccr_base.proofs.SameNames.{same_task-self}
 use Rattle.ccr_model.proofs.TaskLists.{among_left, among_right}
 use Rattle.ccr_places.specs.declared.notes.Note.{Note}
 use Rattle.ccr_places.specs.declared.notes.Note.TheVariants as notes
 use Rattle.ccr_places.specs.Interleaves as interleaves
 use Rattle.ccr_places.specs.Interleaves.{InterleaveState, Waiting, group_at}
+use Rattle.ccr_places.specs.NotedTasks.{noted_fired}
 use Rattle.ccr_object.specs.declared.object.Object.TheVariants.{Queue, Interleave, Site}
 use Rattle.ccr_wiring.specs.Wirings.{kind_of}
 use Rattle.ccr_object.specs.Starts.{start_at, fresh_arbiter, members, branches_of, groups_of}
 use Rattle.ccr_runs.specs.declared.entries.Entry.{Entry}
-use Rattle.ccr_runs.specs.EntryRuns.{Lacks, notes_at, same_place}
+use Rattle.ccr_runs.specs.EntryRuns.{Lacks, notes_at, same_place, queue_at, site_at}
 use Rattle.ccr_runs.specs.Visible.{visible, event_of}
-use Rattle.ccr_net.proofs.Parts.ArbitersMatch.{fired_note, fired_there, is_of}
+use Rattle.ccr_net.proofs.Parts.ArbitersMatch.{fired_there, is_of}
 use Rattle.ccr_net.proofs.Kept.WholeInvariant.{Holds}
 use Rattle.ccr_net.proofs.Played.ObjectsFollowNotes.{object_of, told_object}
 use Rattle.ccr_net.proofs.Played.QueuesAnswer.{queued_fired}
-use Rattle.ccr_net.proofs.Parts.OneMoreEntry.{notes_at-push, queue_at, visible-push}
-use Rattle.ccr_net.proofs.Parts.SitesMatch.{site_at}
+use Rattle.ccr_net.proofs.Parts.OneMoreEntry.{notes_at-push, visible-push}
 use Rattle.ccr_net.proofs.Played.ToldTasksStay.{named_has, suspended_fired, suspended_views-stay, views-stay}
 
 -- ---- who waits by the notes of a domain has fired
@@ -51,7 +51,7 @@ admission_waiting st x is = of_list st.waiting refl
         rest : (interleaves.after_admission st).waiting ≡ ys
         rest = rw some refl
 
-note_waiting : (st : InterleaveState) (note : Note) (x : Waiting) → Among x (interleaves.after st note).waiting → Among x st.waiting ⊎ (has_task (fired_note note) x.task ≡ true)
+note_waiting : (st : InterleaveState) (note : Note) (x : Waiting) → Among x (interleaves.after st note).waiting → Among x st.waiting ⊎ (has_task (noted_fired note) x.task ≡ true)
 note_waiting st (notes.Fired t s ms cs) x is = by (interleaves.is_teardown (group_at st s)) (Among-either x (interleaves.spared st s) _ is)
   where
     by : (c : Bool) → Among x (if c then [] else st.waiting) ⊎ Among x ((record { task = t; spot = s }) ∷ []) → Among x st.waiting ⊎ (has_task (t ∷ []) x.task ≡ true)
@@ -80,13 +80,13 @@ kept_waiting : (st : InterleaveState) (earlier : List Note) (x : Waiting) → Am
 kept_waiting st [] x is = inl is
 kept_waiting st (note ∷ earlier) x is = by (kept_waiting (interleaves.after st note) earlier x is)
   where
-    of_note : Among x st.waiting ⊎ (has_task (fired_note note) x.task ≡ true) → Among x st.waiting ⊎ (has_task (fired_note note ++ fired_there earlier) x.task ≡ true)
+    of_note : Among x st.waiting ⊎ (has_task (noted_fired note) x.task ≡ true) → Among x st.waiting ⊎ (has_task (noted_fired note ++ fired_there earlier) x.task ≡ true)
     of_note (inl old) = inl old
-    of_note (inr new) = inr (among_left (fired_note note) (fired_there earlier) x.task new)
+    of_note (inr new) = inr (among_left (noted_fired note) (fired_there earlier) x.task new)
 
-    by : Among x (interleaves.after st note).waiting ⊎ (has_task (fired_there earlier) x.task ≡ true) → Among x st.waiting ⊎ (has_task (fired_note note ++ fired_there earlier) x.task ≡ true)
+    by : Among x (interleaves.after st note).waiting ⊎ (has_task (fired_there earlier) x.task ≡ true) → Among x st.waiting ⊎ (has_task (noted_fired note ++ fired_there earlier) x.task ≡ true)
     by (inl there) = of_note (note_waiting st note x there)
-    by (inr later) = inr (among_right (fired_note note) (fired_there earlier) x.task later)
+    by (inr later) = inr (among_right (noted_fired note) (fired_there earlier) x.task later)
 
 -- whatever the domain began with
 pub waiting_fired : (w : Parts) (n : ℕ) (lacks : Lacks) (es : List Entry) → Holds w n lacks es → (i : ℕ) (branches : List ℕ) (groups : List Group) (x : Waiting) → Among x (interleaves.kept (interleaves.start branches groups) (notes_at es (places.Arbiter i))).waiting → IsFired (visible es) x.task

@@ -11,7 +11,7 @@ use Rattle.ccr_base.specs.declared.names.Place.{Place}
 use Rattle.ccr_wiring.specs.declared.parts.Parts.{Parts}
 use Rattle.ccr_wiring.specs.Valid.{IsValid}
 use Rattle.ccr_wiring.proofs.Soundness.{sound}
-use Rattle.ccr_base.proofs.Booleans.{eq-self, same_number}
+use Rattle.ccr_base.proofs.Booleans.{eq-self, same_number, differ}
 use Rattle.ccr_base.proofs.Options.{get-push}
 use Rattle.ccr_places.specs.declared.notes.Note.{Note}
 use Rattle.ccr_claim.specs.declared.asks.Ask.{Ask}
@@ -34,7 +34,6 @@ use Rattle.ccr_net.specs.Acted.{PlainState, act_after, scene_from, scene_after, 
 use Rattle.ccr_runs.specs.Played.{entries_of, entry_of, heard, next_of, number_at, numbered, place_at, protocol, scene}
 use Rattle.ccr_runs.specs.EntryRuns.{Lacks, IsRunAfter, entry_for, made_by, never, replies_of, scheduled_from, with_made}
 use Rattle.ccr_net.specs.Schedules.{AreStarted, IsActing, IsAnswered, IsMet, IsPlayed, IsShortAfter, IsStep}
-use Rattle.ccr_net.proofs.Played.OneMoreAct.{differs}
 use Rattle.ccr_net.proofs.Played.EachPlaceAnswers.{step_facts}
 use Rattle.ccr_net.proofs.Played.PlayedRunsAreRuns.{Adds, Matches, Matches-begins, act_adds}
 use Rattle.ccr_net.proofs.Played.NextAsksAreAnswered.{StepFacts}
@@ -293,7 +292,7 @@ module _ (workers : ℕ) (lacks : Lacks) (state : PlainState) (team : List Actin
             let j_is : k ≡ j = same_number k j is in
             let x_is : x ≡ b = got_set team k b x low (subst (λ i. slice_get (slice_set team k b) i ≡ Some x) (sym j_is) at) in
             subst (λ i. IsActing w lacks more i x) j_is (subst (IsActing w lacks more k) (sym x_is) (acting_reply w lacks entries more k a b step.one step.made.reply acting_so step.asks step.made.heard step.made.long own_heard))
-        by false is = acting_heard w lacks entries more j x (others_heard j is) (played.acting j x (sym (got_other team k b j (differs k j is)) ∙ at))
+        by false is = acting_heard w lacks entries more j x (others_heard j is) (played.acting j x (sym (got_other team k b j (λ same. differ k j is (sym same))) ∙ at))
 
     pub step_played : IsPlayed workers lacks later (slice_set team k b) more
     step_played =

@@ -17,7 +17,7 @@ use Rattle.ccr_model.proofs.WhoWasPut.{ArePlaced-legal, QueuedFacts-queued}
 use Rattle.ccr_places.specs.declared.notes.Note.{Note}
 use Rattle.ccr_places.specs.declared.notes.Note.TheVariants as notes
 use Rattle.ccr_places.specs.Queues as queues
-use Rattle.ccr_places.specs.Queues.{QueueState, QueueTasks, Queued}
+use Rattle.ccr_places.specs.Queues.{QueueState, QueueTasks, Queued, queued_task}
 use Rattle.ccr_claim.specs.declared.asks.Ask.{Ask}
 use Rattle.ccr_claim.specs.declared.asks.Ask.TheVariants as asks
 use Rattle.ccr_claim.specs.declared.asks.Reply.{Reply}
@@ -27,22 +27,21 @@ use Rattle.ccr_object.specs.declared.object.Object.TheVariants.{Queue}
 use Rattle.ccr_object.specs.Queues as objects
 use Rattle.ccr_runs.specs.declared.entries.Entry.{Entry}
 use Rattle.ccr_runs.specs.Places.{queue_note}
-use Rattle.ccr_runs.specs.EntryRuns.{Lacks, notes_at, reply_to, same_place}
+use Rattle.ccr_runs.specs.EntryRuns.{Lacks, notes_at, reply_to, same_place, queue_at}
 use Rattle.ccr_runs.specs.Views.{view}
 use Rattle.ccr_runs.specs.Visible.{visible, event_of}
 use Rattle.ccr_net.proofs.Kept.WholeInvariant.{Holds}
 use Rattle.ccr_net.proofs.Parts.NotesAnswerAsks.{Given, given_some}
 use Rattle.ccr_net.proofs.Played.HandedTasksAreTold.{PutTells}
 use Rattle.ccr_net.proofs.Played.ObjectsFollowNotes.{AnswersAs, told_queue}
-use Rattle.ccr_net.proofs.Parts.OneMoreEntry.{queue_at, queue_at-push, visible-push}
-use Rattle.ccr_net.proofs.Parts.QueuesMatch.{task_queued}
+use Rattle.ccr_net.proofs.Parts.OneMoreEntry.{queue_at-push, visible-push}
 use Rattle.ccr_net.proofs.Played.ToldTasksStay.{map_behind, map_drop, map_first, named_has, views-stay}
 use Rattle.ccr_net.proofs.Parts.WorkMatches.{view-stays}
 
 -- who is queued has fired
 pub queued_fired : (w : Parts) (n : ℕ) (lacks : Lacks) (es : List Entry) → Holds w n lacks es → (q : ℕ) (x : Queued) → Among x (queue_at w es q).queued → IsFired (visible es) x.task
 queued_fired w n lacks es holds q x is =
-    let there : has_task (queued w (visible es) q) x.task ≡ true = subst (λ ts. has_task ts x.task ≡ true) (holds.queues.listed.queued_so q) (named_has task_queued (queue_at w es q).queued x is) in
+    let there : has_task (queued w (visible es) q) x.task ≡ true = subst (λ ts. has_task ts x.task ≡ true) (holds.queues.listed.queued_so q) (named_has queued_task (queue_at w es q).queued x is) in
     (ArePlaced-legal w (visible es) holds.legal).all_fired x.task (QueuedFacts-queued w (visible es) q x.task there).put_so
 
 -- the whole tasks of those that are queued

@@ -31,16 +31,16 @@ use Rattle.ccr_object.specs.Commits.{committed}
 use Rattle.ccr_object.specs.Sites as objects
 use Rattle.ccr_runs.specs.declared.entries.Entry.{Entry}
 use Rattle.ccr_runs.specs.Places.{site_note, commit_note}
-use Rattle.ccr_runs.specs.EntryRuns.{Lacks, notes_at, reply_to, same_place, waits}
-use Rattle.ccr_runs.specs.Views.{view}
+use Rattle.ccr_runs.specs.EntryRuns.{Lacks, notes_at, reply_to, same_place, waits, site_at}
+use Rattle.ccr_runs.specs.Views.{view, suspended_view}
 use Rattle.ccr_runs.specs.Visible.{visible, event_of}
 use Rattle.ccr_net.proofs.Kept.WholeInvariant.{Holds}
 use Rattle.ccr_net.proofs.Played.BuiltTasksAreTold.{IsResuming}
 use Rattle.ccr_net.proofs.Parts.NotesAnswerAsks.{Given, given_some}
 use Rattle.ccr_net.proofs.Played.OtherObjectsStay.{site_fired}
-use Rattle.ccr_net.proofs.Played.ObjectsFollowNotes.{AnswersAs, suspended_view, told_site}
+use Rattle.ccr_net.proofs.Played.ObjectsFollowNotes.{AnswersAs, told_site}
 use Rattle.ccr_net.proofs.Parts.OneMoreEntry.{visible-push}
-use Rattle.ccr_net.proofs.Parts.SitesMatch.{site_at, site_at-push}
+use Rattle.ccr_net.proofs.Parts.SitesMatch.{site_at-push}
 use Rattle.ccr_net.proofs.Played.ToldTasksStay.{map_behind, map_drop, suspended_view-stays, suspended_views-stay}
 
 -- the task that the ask commits or suspends

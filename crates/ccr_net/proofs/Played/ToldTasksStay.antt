@@ -16,11 +16,10 @@ use Rattle.ccr_model.proofs.TasksLeft.{of_filter}
 use Rattle.ccr_base.proofs.Booleans.{or_left, or_right}
 use Rattle.ccr_model.proofs.FiredTasks.{IsFired}
 use Rattle.ccr_model.proofs.Members.{Among}
-use Rattle.ccr_model.proofs.SameNames.{same_task-self}
+use Rattle.ccr_base.proofs.SameNames.{same_task-self}
 use Rattle.ccr_model.proofs.Stable.{play_of-append}
-use Rattle.ccr_runs.specs.Views.{view}
+use Rattle.ccr_runs.specs.Views.{view, suspended_view}
 use Rattle.ccr_net.proofs.Parts.WorkMatches.{view-stays}
-use Rattle.ccr_net.proofs.Played.ObjectsFollowNotes.{suspended_view}
 pub use Rattle.std.proofs.lemmas.List.{map-append as map_behind}
 
 -- ---- lists
