@@ -1,5 +1,5 @@
 -- An actor follows the list of its steps.
-use Rattle.std.proofs.Common.{◌≡◌, ◌⊎◌, ◌≤◌, ◌<◌, ℕ, suc, ◌+◌, Bool, true, false, List, [], ◌∷◌, ◌++◌, length, take, drop, Option, Some, None, Ok, Err, refl, sym, ap, subst, cond, arith, inl, inr, ◌∙◌}
+use Rattle.std.proofs.Common.{◌≡◌, ◌⊎◌, ◌≤◌, ◌<◌, ℕ, suc, ◌+◌, Bool, true, false, List, [], ◌∷◌, ◌++◌, length, take, drop, Option, Some, None, Ok, Err, refl, sym, ap, subst, cond, arith, inl, inr, ◌∙◌, append_assoc}
 use Rattle.std.specs.Prelude.{◌↔◌}
 use Rattle.std.proofs.lemmas.Bool.{le-leb, lt-leb}
 use Rattle.std.proofs.lemmas.List.{map-append, take-append-le, drop-append-le, append-nil, length_push, take_all}
@@ -20,7 +20,7 @@ use Rattle.ccr_claim.specs.declared.asks.Reply.TheVariants as replies
 use Rattle.ccr_claim.specs.Asks.{AreSettling, is_settling, is_refusable, due_of, may_come}
 use Rattle.ccr_actor.specs.Acting.{Acting, Asking, quiet, settling, going, asking_of, due_in, is_at_rest, kept, kept_if, rests_by, at_state, started, sent, sent_work, sent_play, sent_state, next as next_of, answered, shortened, state_after_reply, IsAfter}
 use Rattle.ccr_actor.specs.Actors.{State, Work, lines, round, taking, playing, posting, shedding, resting, Turn, settle, admit, drive, go_on, stop, turn, asked, ask_in, work_ask, settled, after_in, after, after_all, after_work, after_play, shorten, start, state_after, next}
-use Rattle.ccr_actor.specs.Nets.{Step, AreNext, IsProper, replies_of}
+use Rattle.ccr_actor.specs.Nets.{Step, AreNext, IsProper, replies_of, AreFitting}
 use Rattle.ccr_actor.specs.Following.{Follows, IsShortFrom}
 use Rattle.ccr_actor.proofs.WhatCountsIsKept.{kept_asked, kept_whole, kept_short, kept_hand, kept_after, after_short, sent_short}
 use Rattle.ccr_actor.proofs.HandsSettle.{all_settle, short_settles}
@@ -118,7 +118,7 @@ refused-in wiring actor state stop one goes all is may = cc is
 -- ---- the steps
 
 -- a place that lies behind what was replied changes nothing
-later : (wiring : Parts) (actor n : ℕ) (given : List Reply) → length given < n → state_after wiring actor (Some n) given ≡ state_after wiring actor None given
+pub later : (wiring : Parts) (actor n : ℕ) (given : List Reply) → length given < n → state_after wiring actor (Some n) given ≡ state_after wiring actor None given
 later wiring actor n given less = ap (λ b. cond b (after_all wiring actor (shorten wiring actor (after_all wiring actor (start wiring actor) (take n given))) (drop n given)) (after_all wiring actor (start wiring actor) given)) (lt-leb n (length given) less)
 
 pub next_later : (wiring : Parts) (actor n : ℕ) (given : List Reply) (steps : List Step) → length given + length steps ≤ n → AreNext wiring actor None given steps → AreNext wiring actor (Some n) given steps
@@ -131,11 +131,7 @@ next_later wiring actor n given (step ∷ steps) within all = (
 pub next_more : (wiring : Parts) (actor : ℕ) (lack : Option ℕ) (given : List Reply) (steps : List Step) (step : Step) → AreNext wiring actor lack given steps → next wiring actor lack (given ++ replies_of steps) ≡ Some step.asked → AreNext wiring actor lack given (steps ++ step ∷ [])
 next_more wiring actor lack given [] step all is = (subst (λ (g : List Reply). next wiring actor lack g ≡ Some step.asked) (append-nil given) is, tt)
 next_more wiring actor lack given (first ∷ steps) step all is =
-    (all.0, next_more wiring actor lack (given ++ first.reply ∷ []) steps step all.1 (subst (λ (g : List Reply). next wiring actor lack g ≡ Some step.asked) (regroup given first.reply (replies_of steps)) is))
-  where
-    regroup : (xs : List Reply) (y : Reply) (zs : List Reply) → xs ++ y ∷ zs ≡ (xs ++ y ∷ []) ++ zs
-    regroup [] y zs = refl
-    regroup (x ∷ xs) y zs = ap (λ (l : List Reply). x ∷ l) (regroup xs y zs)
+    (all.0, next_more wiring actor lack (given ++ first.reply ∷ []) steps step all.1 (subst (λ (g : List Reply). next wiring actor lack g ≡ Some step.asked) (sym (append_assoc given (first.reply ∷ []) (replies_of steps))) is))
 
 -- one more reply
 pub after-more : (wiring : Parts) (actor : ℕ) (state : State) (given : List Reply) (reply : Reply) → after_all wiring actor state (given ++ reply ∷ []) ≡ after wiring actor (after_all wiring actor state given) reply
@@ -332,3 +328,8 @@ follows_rest wiring actor steps a follows long =
       λ rest. sym same ∙ no-ask a.asking (next_of a) rest,
       λ none. ap (λ (x : Acting). rests_by x.asking (next_of a)) is ∙ ap (rests_by quiet) (same ∙ none),
     )
+
+-- steps whose replies fit, and more of them
+pub fitting-both : (steps more : List Step) → AreFitting steps → AreFitting more → AreFitting (steps ++ more)
+fitting-both [] more all rest = rest
+fitting-both (step ∷ steps) more all rest = (all.0, fitting-both steps more all.1 rest)

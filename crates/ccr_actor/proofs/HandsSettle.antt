@@ -1,5 +1,5 @@
 -- What an actor has in hand settles, whatever it is replied; once short it asks nothing else.
-use Rattle.std.proofs.Common.{◌≡◌, ℕ, ◌+◌, ◌≤◌, Bool, true, false, List, [], ◌∷◌, ◌++◌, length, take, drop, Option, Some, None, refl, sym, subst, cond, ◌∙◌}
+use Rattle.std.proofs.Common.{◌≡◌, ℕ, ◌+◌, ◌≤◌, Bool, true, false, List, [], ◌∷◌, ◌++◌, length, take, drop, Option, Some, None, refl, sym, subst, cond}
 use Rattle.std.specs.Prelude.{nat_le}
 use Rattle.std.proofs.lemmas.Bool.{le-leb}
 use Rattle.ccr_base.specs.declared.names.Spot.{Spot}
@@ -19,7 +19,7 @@ use Rattle.ccr_claim.proofs.AttemptHandsSettle.{release_settles, firing_settles}
 use Rattle.ccr_actor.specs.Plans.{plan_of}
 use Rattle.ccr_actor.specs.Actors.{State, Work, lines, round, taking, playing, posting, shedding, resting, Turn, settle, admit, drive, go_on, stop, turn, turn_of, spots_left, name_at, asked, ask_in, settled, after_admit, after_attempt, after_work, after_line, after_round, after_take, after_play, after_end, take_from, after_in, after, after_all, in_attempt, shorten, start, state_after, next}
 use Rattle.ccr_actor.proofs.TurnsTellStates.{IsTurnOf, turn_is}
-use Rattle.ccr_actor.proofs.WhatCountsIsKept.{settled_short}
+use Rattle.ccr_actor.proofs.WhatCountsIsKept.{all_short}
 
 joined : (front back : List Asked) → AreSettling front → AreSettling back → AreSettling (front ++ back)
 joined [] back one two = two
@@ -204,19 +204,6 @@ abbrev IsShort : State → Type 0
 IsShort state = state.is_short ≡ true
 
 -- a short actor settles or stops
-short-turn : (wiring : Parts) (actor : ℕ) (state : State) (hand : List Asked) (domains : List ℕ) (spots : List Spot) (reply : Reply) → (after_in wiring actor state (turn_of true hand domains spots) reply).is_short ≡ state.is_short
-short-turn wiring actor state [] domains spots reply = refl
-short-turn wiring actor state (one ∷ more) domains spots reply = settled_short wiring state more reply
-
-short-after : (wiring : Parts) (actor : ℕ) (state : State) (reply : Reply) → IsShort state → IsShort (after wiring actor state reply)
-short-after wiring actor state reply short =
-    let P : Bool → Type 0 = λ b. (after_in wiring actor state (turn_of b state.hand state.domains (spots_left state)) reply).is_short ≡ state.is_short in
-    subst P (sym short) (short-turn wiring actor state state.hand state.domains (spots_left state) reply) ∙ short
-
-short-along : (wiring : Parts) (actor : ℕ) (state : State) (given : List Reply) → IsShort state → IsShort (after_all wiring actor state given)
-short-along wiring actor state [] short = short
-short-along wiring actor state (reply ∷ given) short = short-along wiring actor (after wiring actor state reply) given (short-after wiring actor state reply short)
-
 short-ask : (wiring : Parts) (actor : ℕ) (state : State) (hand : List Asked) (domains : List ℕ) (spots : List Spot) (one : Asked) → AreSettling hand → ask_in wiring actor state (turn_of true hand domains spots) ≡ Some one → is_settling one.ask ≡ true
 short-ask wiring actor state [] domains spots one all is = cc is
 short-ask wiring actor state (first ∷ more) domains spots one all is = let same : first ≡ one = cc is in subst (λ (a : Asked). is_settling a.ask ≡ true) same all.0
@@ -230,4 +217,4 @@ pub short_settles : (wiring : Parts) (actor n : ℕ) (given : List Reply) (one :
 short_settles wiring actor n given one within =
     let P : Bool → Type 0 = λ b. asked wiring actor (cond b (after_all wiring actor (early wiring actor n given) (drop n given)) (after_all wiring actor (start wiring actor) given)) ≡ Some one → is_settling one.ask ≡ true in
     let yes : nat_le n (length given) ≡ true = le-leb n (length given) within in
-    subst P (sym yes) (asks-short wiring actor (after_all wiring actor (early wiring actor n given) (drop n given)) one (short-along wiring actor (early wiring actor n given) (drop n given) refl) (split-settles true wiring actor n given))
+    subst P (sym yes) (asks-short wiring actor (after_all wiring actor (early wiring actor n given) (drop n given)) one (all_short wiring actor (early wiring actor n given) (drop n given)) (split-settles true wiring actor n given))

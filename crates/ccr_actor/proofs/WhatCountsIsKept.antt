@@ -12,7 +12,7 @@ use Rattle.ccr_claim.specs.declared.asks.Asked.{Asked}
 use Rattle.ccr_claim.specs.declared.asks.Reply.{Reply}
 use Rattle.ccr_claim.specs.declared.asks.Reply.TheVariants as replies
 use Rattle.ccr_actor.specs.Acting.{bare, kept_if, kept, sent_state, asking_of}
-use Rattle.ccr_actor.specs.Actors.{State, Work, lines, round, taking, playing, posting, shedding, resting, Turn, settle, admit, drive, go_on, stop, turn, turn_of, spots_left, asked, ask_in, settled, after_admit, after_attempt, after_work, after_line, after_round, after_take, after_play, after_end, take_from, after_in, after}
+use Rattle.ccr_actor.specs.Actors.{State, Work, lines, round, taking, playing, posting, shedding, resting, Turn, settle, admit, drive, go_on, stop, turn, turn_of, spots_left, asked, ask_in, settled, after_admit, after_attempt, after_work, after_line, after_round, after_take, after_play, after_end, take_from, after_in, after, after_all}
 
 -- a state that isn't short counts whole
 pub kept_whole : (state : State) → state.is_short ≡ false → kept state ≡ state
@@ -214,6 +214,11 @@ in-short wiring actor state stop reply = refl
 
 pub after_short : (wiring : Parts) (actor : ℕ) (state : State) (reply : Reply) → (after wiring actor state reply).is_short ≡ state.is_short
 after_short wiring actor state reply = in-short wiring actor state (turn state) reply
+
+-- nor does it change along any replies
+pub all_short : (wiring : Parts) (actor : ℕ) (state : State) (given : List Reply) → (after_all wiring actor state given).is_short ≡ state.is_short
+all_short wiring actor state [] = refl
+all_short wiring actor state (reply ∷ given) = all_short wiring actor (after wiring actor state reply) given ∙ after_short wiring actor state reply
 
 -- ---- after a reply
 

@@ -3,7 +3,6 @@ pub mod Actors
 pub mod Acting
 pub mod Needs
 pub mod Inside
-pub mod Driven
 pub mod Courses
 pub mod Nets
 pub mod Following

@@ -13,13 +13,12 @@ pub struct Driven<'w> {
 }
 
 impl<'w> Model for Driven<'w> {
-    ghost use Rattle.std.specs.Prelude.{List, ◌++◌};
+    ghost use Rattle.std.specs.Prelude.{List, ◌++◌, option_to_list};
     ghost use Rattle.ccr_base.specs.declared.names.Spot.{Spot as SpotOf};
-    ghost use Rattle.ccr_actor.specs.Driven.{site_list};
 
     ghost Value = { List SpotOf };
 
-    ghost view = { λ driven. site_list driven.site ++ driven.listed.now };
+    ghost view = { λ driven. option_to_list driven.site ++ driven.listed.now };
 }
 
 impl<'w> Driven<'w> {

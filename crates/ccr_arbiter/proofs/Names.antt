@@ -1,15 +1,14 @@
 -- Task names: being the same is an equivalence, and what that gives for lists of them.
 use Rattle.std.proofs.Common.{◌≡◌, ℕ, ◌≤◌, ◌<◌, Bool, true, false, ◌&&◌, ◌||◌, ◌==◌, List, [], ◌∷◌, ◌++◌, length, refl, sym, ap, ◌∙◌, true≢false, arith, length-append, not, IsTrue}
 use Rattle.std.proofs.lemmas.Bool.Decides.{nat_tests}
-use Rattle.std.proofs.lemmas.List.Folds.{list_any-append}
 use Rattle.std.proofs.lemmas.Map.Keys.{IsDistinct-push}
 use Rattle.std.proofs.lemmas.Map.Made.{length-le_from_is_member}
 use Rattle.std.proofs.lemmas.Map.Steps.{list_any_congr}
 use Rattle.std.specs.Cmp.{IsEquivalence}
 use Rattle.std.specs.List.{IsDistinct}
-use Rattle.std.proofs.Math.Bool.{or-false}
 use Rattle.ccr_base.specs.declared.names.TaskId.{TaskId}
 use Rattle.ccr_base.specs.Names.{same_task, has_task}
+use Rattle.ccr_base.proofs.SameNames.{has_task-push}
 use Rattle.ccr_arbiter.specs.Spare.{AreAmong}
 
 pub IsEquivalence-same_task : IsEquivalence same_task
@@ -27,10 +26,6 @@ IsEquivalence-same_task = record {
 
     congr_of : (a b c d e f : ℕ) → ((a == c) && (b == d)) ≡ true → ((a == e) && (b == f)) ≡ ((c == e) && (d == f))
     congr_of a b c d e f h = grind (arith, nat_tests)
-
--- a name more behind the list
-pub has_task-push : (tasks : List TaskId) (last task : TaskId) → has_task (tasks ++ last ∷ []) task ≡ (has_task tasks task || same_task task last)
-has_task-push tasks last task = list_any-append (same_task task) tasks (last ∷ []) ∙ ap (λ b. has_task tasks task || b) (or-false (same_task task last))
 
 -- one of them may come to the shorter list
 pub AreAmong-push : (tasks all : List TaskId) (last : TaskId) → AreAmong tasks all → has_task all last ≡ true → AreAmong (tasks ++ last ∷ []) all

@@ -1,4 +1,5 @@
 pub mod Booleans
+pub mod TwoDigits
 pub mod Options
 pub mod Filters
 pub mod Lists

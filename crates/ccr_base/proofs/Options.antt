@@ -1,5 +1,5 @@
 -- What is known of an option by what is made of it, and of a list by what stands at an index.
-use Rattle.std.proofs.Common.{◌≡◌, ◌⊎◌, inl, inr, ℕ, zero, suc, ◌<◌, ◌≤◌, Bool, true, false, not, cond, List, [], ◌∷◌, ◌++◌, length, Option, Some, None, refl, ap, arith}
+use Rattle.std.proofs.Common.{◌≡◌, ◌⊎◌, inl, inr, ℕ, zero, suc, ◌<◌, ◌≤◌, Bool, true, false, not, cond, List, [], ◌∷◌, ◌++◌, length, Option, Some, None, refl, ap, arith, set, ◌≢◌, take, drop, ◌+◌}
 use Rattle.std.specs.Prelude.{is_some, option_map, option_and_then, IfSome, nat_lt}
 use Rattle.std.specs.List.{slice_get}
 use Rattle.std.specs.Option.{option_map_or, option_or}
@@ -72,11 +72,11 @@ get-some [] n low = absurd (omega (arith, low))
 get-some (x ∷ xs) zero low = (x, refl)
 get-some (x ∷ xs) (suc n) low = get-some xs n (omega (arith, low))
 
--- what stands before one more stays where it is
-pub get-before : {X : Type 0} (xs : List X) (x : X) (n : ℕ) → n < length xs → slice_get (xs ++ x ∷ []) n ≡ slice_get xs n
-get-before [] x n low = absurd (omega (arith, low))
-get-before (y ∷ xs) x zero low = refl
-get-before (y ∷ xs) x (suc n) low = get-before xs x n (omega (arith, low))
+-- what stands in the first of two lists stands there in both together
+pub get-left : {X : Type 0} (xs ys : List X) (n : ℕ) → n < length xs → slice_get (xs ++ ys) n ≡ slice_get xs n
+get-left [] ys n low = absurd (omega (arith, low))
+get-left (x ∷ xs) ys zero low = refl
+get-left (x ∷ xs) ys (suc n) low = get-left xs ys n (omega (arith, low))
 
 -- something stands at each index below the length, and at no other
 pub is_some-get : {X : Type 0} (xs : List X) (k : ℕ) → is_some (slice_get xs k) ≡ nat_lt k (length xs)
@@ -102,3 +102,45 @@ get-push (z ∷ xs) x y (suc k) at = of_either (get-push xs x y k at)
     of_either : (slice_get xs k ≡ Some y) ⊎ ((k ≡ length xs) × (x ≡ y)) → (slice_get xs k ≡ Some y) ⊎ ((suc k ≡ suc (length xs)) × (x ≡ y))
     of_either (inl there) = inl there
     of_either (inr last) = inr (ap suc last.0, last.1)
+
+-- what was put at an index stands there
+pub get-set_same : {X : Type 0} (xs : List X) (k : ℕ) (x : X) → k < length xs → slice_get (set xs k x) k ≡ Some x
+get-set_same [] k x low = absurd (omega (arith, low))
+get-set_same (y ∷ xs) zero x low = refl
+get-set_same (y ∷ xs) (suc k) x low = get-set_same xs k x (omega (arith, low))
+
+-- and at any other what stood there
+pub get-set_other : {X : Type 0} (xs : List X) (k : ℕ) (x : X) (j : ℕ) → j ≢ k → slice_get (set xs k x) j ≡ slice_get xs j
+get-set_other [] k x j other = refl
+get-set_other (y ∷ xs) zero x zero other = absurd (other refl)
+get-set_other (y ∷ xs) zero x (suc j) other = refl
+get-set_other (y ∷ xs) (suc k) x zero other = refl
+get-set_other (y ∷ xs) (suc k) x (suc j) other = get-set_other xs k x j (λ e. other (ap suc e))
+
+drop_none : {X : Type 0} (xs : List X) → xs ≡ drop 0 xs
+drop_none [] = refl
+drop_none (x ∷ xs) = refl
+
+-- a list is what stands before an item, the item, and what stands behind it
+pub parted : {X : Type 0} (xs : List X) (i : ℕ) (x : X) → slice_get xs i ≡ Some x → xs ≡ take i xs ++ x ∷ drop (i + 1) xs
+parted [] i x at = absurd (cc)
+parted (y ∷ xs) zero x at = let one : y ≡ x = cc in rw one (ap (λ zs. x ∷ zs) (drop_none xs))
+parted (y ∷ xs) (suc i) x at = let e : suc i + 1 ≡ suc (i + 1) = omega arith in rw e (ap (λ zs. y ∷ zs) (parted xs i x at))
+
+-- the rest of a list behind its first
+pub drop-next : {X : Type 0} (n : ℕ) (xs : List X) (x : X) (rest : List X) → x ∷ rest ≡ drop n xs → (slice_get xs n ≡ Some x) × (rest ≡ drop (suc n) xs) × (n < length xs)
+drop-next zero [] x rest is = absurd (cc)
+drop-next zero (y ∷ xs) x rest is = (cc, cc, omega arith)
+drop-next (suc n) [] x rest is = absurd (cc)
+drop-next (suc n) (y ∷ xs) x rest is = let more = drop-next n xs x rest is in (more.0, more.1, (let low = more.2 in omega arith))
+
+pub drop-end : {X : Type 0} (n : ℕ) (xs : List X) → [] ≡ drop n xs → length xs ≤ n
+drop-end zero [] is = omega arith
+drop-end zero (y ∷ xs) is = absurd (cc)
+drop-end (suc n) [] is = omega arith
+drop-end (suc n) (y ∷ xs) is = let more = drop-end n xs is in omega arith
+
+-- where there is something, it is this
+pub is_there : {X : Type 0} (o : Option X) → is_some o ≡ true → (x : X) × (o ≡ Some x)
+is_there None is = absurd (cc)
+is_there (Some x) is = (x, refl)

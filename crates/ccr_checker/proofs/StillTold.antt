@@ -1,12 +1,12 @@
 -- What is left by the tables is what is left after the history, where they keep what the model says.
-use Rattle.std.proofs.Common.{◌≡◌, ◌∙◌, ℕ, ◌+◌, ◌≤◌, Bool, false, ◌||◌, List, [], ◌∷◌, length, map, refl, ap, sym, arith}
+use Rattle.std.proofs.Common.{◌≡◌, ◌∙◌, ℕ, ◌+◌, ◌≤◌, Bool, false, List, [], ◌∷◌, length, refl, ap, sym, arith}
 use Rattle.std.specs.Prelude.{◌==◌}
 use Rattle.std.specs.List.{slice_get, list_any}
 use Rattle.std.specs.Option.{option_map_or}
 use Rattle.std.proofs.lemmas.List.{length-map}
 use Rattle.ccr_base.specs.declared.names.TaskId.{TaskId}
 use Rattle.ccr_base.specs.declared.names.Spot.{Spot}
-use Rattle.ccr_base.proofs.Lists.{any_same}
+use Rattle.ccr_base.proofs.Lists.{any_same, list_any-map}
 use Rattle.ccr_wiring.specs.declared.parts.Parts.{Parts}
 use Rattle.ccr_wiring.specs.declared.parts.PosterPart.{PosterPart}
 use Rattle.ccr_wiring.specs.declared.parts.ArbiterPart.{ArbiterPart}
@@ -30,10 +30,6 @@ use Rattle.ccr_ledger.proofs.RulesTold.{is_ready_told}
 use Rattle.ccr_checker.specs.Left.{has_line_left, can_admit, has_admission, has_queued, is_still}
 use Rattle.ccr_checker.specs.LeftInTables.{has_line_left_in, can_fire_in, has_admission_in, has_ready, has_queued_in, is_still_in, are_whole_in, is_complete_in}
 
-any-named : (p : TaskId → Bool) (cards : List (TaskId × Card)) → list_any (λ (entry : TaskId × Card). p entry.0) cards ≡ list_any p (map (λ (entry : TaskId × Card). entry.0) cards)
-any-named p [] = refl
-any-named p (entry ∷ cards) = ap (λ b. p entry.0 || b) (any-named p cards)
-
 none-run : (rs : List Runner) → (length rs == 0) ≡ is_none_of (runners rs)
 none-run rs = ap (λ n. n == 0) (sym (length-map rs (λ (r : Runner). r.task)))
 
@@ -54,7 +50,7 @@ module _ (w : Parts) (valid : IsValid w) (h : List Event) (legal : IsLegal w h) 
   admission n (x ∷ xs) low = rw (keeps.rows.waiting n (omega (arith, low)), admits_first (waiting w h n), admission (n + 1) xs (omega (arith, low))) refl
 
   ready : has_ready b ≡ list_any (may_put w h) (fired h)
-  ready = any-named (is_ready b) b.tasks ∙ (ap (λ ts. list_any (is_ready b) ts) keeps.tasks.names ∙ any_same (is_ready b) (may_put w h) (fired h) (is_ready_told w valid h legal b keeps))
+  ready = sym (list_any-map (is_ready b) (λ (entry : TaskId × Card). entry.0) b.tasks) ∙ (ap (λ ts. list_any (is_ready b) ts) keeps.tasks.names ∙ any_same (is_ready b) (may_put w h) (fired h) (is_ready_told w valid h legal b keeps))
 
   queued_left : (n : ℕ) (qs : List QueuePart) → n + length qs ≤ length w.queues → has_queued_in b n qs ≡ has_queued w h n qs
   queued_left n [] low = refl

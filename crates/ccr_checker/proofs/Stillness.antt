@@ -1,5 +1,5 @@
 -- Something is left exactly where an event comes first.
-use Rattle.std.proofs.Common.{◌≡◌, ℕ, ◌+◌, Bool, true, false, not, ◌&&◌, ◌||◌, List, [], ◌∷◌, Option, Some, None, refl, sym, arith}
+use Rattle.std.proofs.Common.{◌≡◌, ℕ, ◌+◌, Bool, true, false, not, ◌&&◌, ◌||◌, List, [], ◌∷◌, Some, None, refl, sym, arith}
 use Rattle.std.specs.Prelude.{if◌then◌else◌, find, is_some}
 use Rattle.std.specs.List.{slice_get, list_any}
 use Rattle.std.proofs.lemmas.Bool.Decides.{nat_tests}
@@ -82,10 +82,6 @@ unfolding is_still
 is_still-first w c h =
     rw (is_some-or, some_post h 0 w.posters, is_some-or, some_fire w c h (spots w), is_some-or, some_admit w h 0 w.arbiters, is_some-or, some_put w h, is_some-or, is_some-map, some_head (running h), some_start w c h 0 w.queues)
     (none_of_six (has_line_left h 0 w.posters) (list_any (can_fire w h) (spots w)) (has_admission w h 0 w.arbiters) (list_any (may_put w h) (fired h)) (is_none_of (running h)) (has_queued w h 0 w.queues))
-
-pub some_where_not : {X : Type 0} (o : Option X) (b : Bool) → not (is_some o) ≡ b → b ≡ false → (x : X) × (o ≡ Some x)
-some_where_not None b is fails = absurd (cc)
-some_where_not (Some x) b is fails = (x, refl)
 
 -- whether nothing is left is whether the history is quiet
 pub MeansQuiet-still : (w : Parts) (h : List Event) (b : Bool) → b ≡ is_still w h → (is_still w h ≡ true → IsQuiet w h) → (is_still w h ≡ false → AllowsSome w h) → MeansQuiet w h b

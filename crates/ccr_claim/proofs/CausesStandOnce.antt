@@ -4,15 +4,11 @@ use Rattle.std.specs.Prelude.{if◌then◌else◌}
 use Rattle.std.specs.List.{list_all}
 use Rattle.std.proofs.lemmas.Bool.{and_from, and_parts}
 use Rattle.ccr_base.specs.Lists.{has_number, are_apart}
+use Rattle.ccr_base.proofs.Lists.{all_both}
 use Rattle.ccr_cause.specs.Causes.{union, with_cause}
 use Rattle.ccr_wiring.proofs.Apart.{apart_snoc}
 
--- what passes in both lists passes in the two behind one another
-pub all_both : {X : Type 0} (p : X → Bool) (xs ys : List X) → list_all p xs ≡ true → list_all p ys ≡ true → list_all p (xs ++ ys) ≡ true
-all_both p [] ys one two = two
-all_both p (x ∷ xs) ys one two = let parts = and_parts (p x) (list_all p xs) one in and_from (p x) (list_all p (xs ++ ys)) parts.0 (all_both p xs ys parts.1 two)
-
-with_apart : (causes : List ℕ) (c : ℕ) → are_apart causes ≡ true → are_apart (with_cause causes c) ≡ true
+pub with_apart : (causes : List ℕ) (c : ℕ) → are_apart causes ≡ true → are_apart (with_cause causes c) ≡ true
 with_apart causes c apart = by (has_number causes c) refl
   where
     by : (b : Bool) → has_number causes c ≡ b → are_apart (if b then causes else causes ++ c ∷ []) ≡ true

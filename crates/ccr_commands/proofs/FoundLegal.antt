@@ -1,6 +1,7 @@
 -- A text of a history with its report and last line is found legal.
-use Rattle.std.proofs.Common.{◌≡◌, ℕ, ◌+◌, Bool, true, List, [], ◌∷◌, ◌++◌, length, drop, None, Ok, refl, sym, ap, ◌∙◌, subst, append_assoc}
+use Rattle.std.proofs.Common.{◌≡◌, ℕ, ◌+◌, Bool, true, List, [], ◌∷◌, ◌++◌, length, None, Ok, refl, sym, ap, ◌∙◌, subst, append_assoc}
 use Rattle.std.specs.Prelude.{◌==◌, codes, if◌then◌else◌}
+use Rattle.std.proofs.Math.Seq.{drop-append_seam}
 use Rattle.ccr_wiring.specs.declared.parts.Parts.{Parts}
 use Rattle.ccr_model.specs.declared.history.Event.{Event}
 use Rattle.ccr_model.specs.Legal.{IsLegal, IsQuiet, has_shed, is_complete}
@@ -29,10 +30,6 @@ pub read_output : (wiring : Parts) (before : ℕ) (text : List ℕ) (read : Read
 read_output wiring before [] read is = absurd (reading_nothing wiring read is)
 read_output wiring before (b ∷ text) read is = rw is refl
 
-drop_front : (front back : List ℕ) → drop (length front) (front ++ back) ≡ back
-drop_front [] back = refl
-drop_front (b ∷ front) back = drop_front front back
-
 -- what stands behind the line `report 1` of what is due
 due_more : (wiring : Parts) (history : List Event) → (more : List ℕ) × (due_text wiring history ≡ codes "report 1" ++ 10 ∷ more)
 due_more wiring history = (_, refl)
@@ -53,5 +50,5 @@ text_is_found wiring history before again legal complete quiet =
     let read : ReadHistory = record { history = history; rest = length (history_text wiring history); lines = length history + 1 } in
     let text = history_text wiring history ++ due_text wiring history in
     let reads : reading wiring text ≡ Ok read = subst (λ t. reading wiring (history_text wiring history ++ t) ≡ Ok read) (sym due.1) (again due.0) in
-    let same : difference wiring before text read ≡ None = rw (drop_front (history_text wiring history) (due_text wiring history)) (no_difference (due_text wiring history) (before + (length history + 1) + 1)) in
+    let same : difference wiring before text read ≡ None = rw (drop-append_seam (history_text wiring history) (due_text wiring history)) (no_difference (due_text wiring history) (before + (length history + 1) + 1)) in
     (read, record { reads = read_output wiring before text read reads; legal = legal }, same, sym complete, quiet)

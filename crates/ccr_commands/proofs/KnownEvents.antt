@@ -1,13 +1,13 @@
 -- The events of a legal history name what the wiring has, their values are of its version, and each firing names a message.
-use Rattle.std.proofs.Common.{inl, ◌≡◌, ℕ, true, not, List, [], ◌∷◌, ◌++◌, Option, Some, None, refl, sym, ap, subst}
-use Rattle.std.specs.Prelude.{All, IsSome, is_some}
+use Rattle.std.proofs.Common.{inl, ◌≡◌, ℕ, true, not, List, [], ◌∷◌, ◌++◌, None, refl, sym, ap, subst, ◌<◌, length, arith}
+use Rattle.std.specs.Prelude.{All, is_some}
 use Rattle.std.proofs.lemmas.List.Elements.{All-nil, All-push}
 use Rattle.ccr_base.specs.declared.messages.Msg.{Msg}
 use Rattle.ccr_base.specs.declared.names.MsgId.{MsgId}
 use Rattle.ccr_base.specs.declared.names.Spot.{Spot}
 use Rattle.ccr_base.specs.declared.names.Spot.TheVariants.{Branch, Site}
 use Rattle.ccr_base.specs.declared.names.TaskId.{TaskId}
-use Rattle.ccr_base.specs.Names.{has_task}
+use Rattle.ccr_base.specs.Names.{has_task, has_message}
 use Rattle.ccr_base.specs.Values.{same_value}
 use Rattle.ccr_handler.specs.declared.segments.PlayEnd.{PlayEnd}
 use Rattle.ccr_handler.specs.declared.segments.PlayEnd.TheVariants as plays
@@ -38,7 +38,8 @@ use Rattle.ccr_trace.specs.Known.{AreKnown, HasMessages, HaveMessages, IsKnown, 
 use Rattle.ccr_trace.specs.Values.{HasSmallValue, HaveSmallValues, IsSmallEnd, IsSmallValue}
 use Rattle.ccr_trace.proofs.SingleValues.{of_version, same_single}
 use Rattle.ccr_commands.proofs.SinglePosts.{failed_single, posted_single}
-use Rattle.ccr_commands.proofs.FiringsNameMessages.{selection_takes_some}
+use Rattle.ccr_laws.proofs.MessagesAreTakenOnce.{selection_named}
+use Rattle.ccr_laws.proofs.Valid.{TakesSome-valid}
 
 -- a task failed with the value with which its play ends
 failed_as : (value : List ℕ) (end : PlayEnd) → ends_so (ends.Failed value) end ≡ true → (other : List ℕ) × (end ≡ plays.Failed other) × (same_value value other ≡ true)
@@ -46,8 +47,9 @@ failed_as value (plays.Failed other) is = (other, refl, is)
 failed_as value plays.Done is = absurd cc
 failed_as value (plays.Yield site) is = absurd cc
 
-there_some : {X : Type 0} (o : Option X) (x : X) → o ≡ Some x → IsSome o
-there_some o x is = ap is_some is
+some_name : (names : List MsgId) (name : MsgId) → has_message names name ≡ true → 0 < length names
+some_name [] name is = absurd cc
+some_name (n ∷ names) name is = omega arith
 
 module _ (w : Parts) (valid : IsValid w) where
   all : IsSound w
@@ -60,8 +62,8 @@ module _ (w : Parts) (valid : IsValid w) where
       (fine.0, (fine_causes w m.causes fine.1).0, of_version w valid m.value small (λ none. posted_single w none (h ++ events.Post m ∷ []) legal m among))
 
   spot_known : (h : List Event) (spot : Spot) (names : List MsgId) → is_live w h spot ≡ true → is_selection w h spot names ≡ true → IsKnownSpot w spot
-  spot_known h (Branch branch) names live is = let found = some_of (λ (s : Placement). is_live_in w h branch s.domain s.branch.group) (placement w branch) live in there_some (placement w branch) found.0 found.1
-  spot_known h (Site branch site) names live is = let found = some_of (λ port. are_oldest (held h port) names) (site_port w branch site) is in there_some (site_port w branch site) found.0 found.1
+  spot_known h (Branch branch) names live is = let found = some_of (λ (s : Placement). is_live_in w h branch s.domain s.branch.group) (placement w branch) live in ap is_some found.1
+  spot_known h (Site branch site) names live is = let found = some_of (λ port. are_oldest (held h port) names) (site_port w branch site) is in ap is_some found.1
 
   end_known : (h : List Event) (task : TaskId) (how : EndHow) → IsLegal w h → IsAllowed w h (events.End task how) → IsSmallEnd how → IsKnownEnd w how
   end_known h task (ends.Failed value) legal allowed small =
@@ -88,7 +90,7 @@ module _ (w : Parts) (valid : IsValid w) where
   legal_are_known h legal small = λ k d below. known_where_small h legal k d below (small k d below)
 
   event_takes : (h : List Event) (e : Event) → IsAllowed w h e → HasMessages e
-  event_takes h (events.Fire task spot names cuts) allowed = selection_takes_some w h spot names all.patterns (FireFacts-allowed w h task spot names cuts allowed).selection_made
+  event_takes h (events.Fire task spot names cuts) allowed = let one = selection_named w (TakesSome-valid w valid) h spot names (FireFacts-allowed w h task spot names cuts allowed).selection_made in some_name names one.message.id one.named
   event_takes h (events.Post m) allowed = tt
   event_takes h (events.Admit task) allowed = tt
   event_takes h (events.Put task dropped) allowed = tt

@@ -3,7 +3,6 @@ pub mod Inputs
 pub mod FoundOnce
 pub mod Statuses
 pub mod SinglePosts
-pub mod FiringsNameMessages
 pub mod KnownEvents
 pub mod FoundLegal
 mod ToldAsTurns
@@ -11,4 +10,3 @@ mod TurnsToRest
 mod GivenIsDue
 mod TotalsAreTold
 mod ReadAgain
-pub mod ShedEnds

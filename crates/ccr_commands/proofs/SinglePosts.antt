@@ -20,7 +20,6 @@ use Rattle.ccr_wiring.specs.declared.parts.Parts.{Parts}
 use Rattle.ccr_wiring.specs.declared.parts.PosterPart.{PosterPart}
 use Rattle.ccr_wiring.specs.Versions.{action_is_newer, handler_is_newer, is_long, is_newer, poster_is_newer}
 use Rattle.ccr_wiring.specs.Wirings.{Placement, actions_of, branch_of, exception_port, placement, segment_of, actions_at}
-use Rattle.ccr_wiring.proofs.Lists.{none_at}
 use Rattle.ccr_model.specs.declared.history.Event.{Event}
 use Rattle.ccr_model.specs.declared.history.Event.TheVariants as events
 use Rattle.ccr_model.specs.Firings.{spot_of}
@@ -31,8 +30,9 @@ use Rattle.ccr_model.specs.Sites.{resumed}
 use Rattle.ccr_model.specs.TaskData.{Load, load_after, load_at, messages_of, no_load, no_play, play_at, play_of, with_messages}
 use Rattle.ccr_model.specs.Tasks.{running}
 use Rattle.ccr_base.proofs.Booleans.{both, neither}
-use Rattle.ccr_model.proofs.Members.{Among, Among-at, Among-either}
+use Rattle.ccr_model.proofs.Members.{Among, Among-at, Among-either, Among-mapped}
 use Rattle.ccr_base.proofs.Options.{some_of, some_then}
+use Rattle.ccr_base.proofs.Lists.{none_at}
 use Rattle.ccr_model.proofs.PostNames.{along, refused_not}
 use Rattle.ccr_model.proofs.OneMoreEvent.{posts-push}
 use Rattle.ccr_model.proofs.TakenWerePosted.{took_among}
@@ -80,9 +80,7 @@ module _ (w : Parts) (none : is_newer w ≡ false) where
   ArePosted h = (m : Msg) → Among m (posts h) → IsSingle m.value
 
   values_single : (ms : List Msg) → ((m : Msg) → Among m ms → IsSingle m.value) → AreSingle (map (λ (m : Msg). m.value) ms)
-  values_single [] single value is = absurd is
-  values_single (m ∷ ms) single value (inl e) = subst IsSingle (sym e) (single m (inl refl))
-  values_single (m ∷ ms) single value (inr is) = values_single ms (λ x there. single x (inr there)) value is
+  values_single ms single value is = let found = Among-mapped (λ (m : Msg). m.value) ms value is in subst IsSingle found.2 (single found.0 found.1)
 
   more_single : (h : List Event) (load : Load) (t : TaskId) → ArePosted h → AreSingle load.values → AreSingle (with_messages load (messages_of h t)).values
   more_single h load t posted single value is = of (Among-either value load.values (map (λ (m : Msg). m.value) (messages_of h t)) is)

@@ -1,8 +1,8 @@
 -- Each step of an actor leaves it less to do.
 use Rattle.std.proofs.Common.{◌≡◌, ◌<◌, ◌≤◌, ℕ, ◌+◌, ◌*◌, ◌^◌, Bool, true, false, List, [], Some, None, Ok, Err, refl, sym, ap, subst, cond, arith, inl, inr, ◌∙◌}
 use Rattle.std.specs.Prelude.{nat_lt}
-use Rattle.std.proofs.Math.Nat.{mul-le-mul_right}
 use Rattle.ccr_base.specs.declared.names.Spot.{Spot}
+use Rattle.ccr_base.proofs.TwoDigits.{radix}
 use Rattle.ccr_wiring.specs.declared.parts.Parts.{Parts}
 use Rattle.ccr_wiring.specs.Valid.{IsValid}
 use Rattle.ccr_claim.specs.declared.asks.Asked.{Asked}
@@ -29,12 +29,6 @@ use Rattle.ccr_dispatch.specs.ToRest.{IsSettled}
 use Rattle.ccr_dispatch.proofs.WorkLeftFalls.{Fitting, all_work, admit_falls, attempt_waits, calm_drive, calm_waits, drive_falls, hand_falls, settles_append, work_calms, work_falls}
 use Rattle.ccr_actor.proofs.Bounds.{below as some-few, left-few}
 use Rattle.ccr_actor.proofs.StepsOfAttempts.{same-attempt}
-
-radix : (x y m d e : ℕ) → x < y → d < m → x * m + d < y * m + e
-radix x y m d e less few =
-    let more : (x + 1) * m ≤ y * m = mul-le-mul_right m (omega (arith, less)) in
-    let split : (x + 1) * m ≡ x * m + m = grind arith in
-    omega (arith, more, split, few)
 
 -- what is left behind the hand
 abbrev rank : Parts → State → ℕ

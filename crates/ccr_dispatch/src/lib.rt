@@ -1,4 +1,4 @@
-//! Drives an actor over a net, from step to step until it is at rest.
+//! Brings an actor to rest over a net, from step to step.
 #![tactic(auto)]
 
 mod laws;

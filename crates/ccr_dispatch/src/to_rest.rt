@@ -1,4 +1,4 @@
-//! The drive of an actor.
+//! An actor brought to rest over any net.
 
 ghost use Rattle.std.specs.Prelude.{◌≡◌, ◌≢◌, ◌<◌, ◌≤◌, ℕ, [], true, is_some};
 ghost use Rattle.ccr_actor.specs.Acting.{is_at_rest, next};

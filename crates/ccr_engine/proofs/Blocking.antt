@@ -1,18 +1,19 @@
 -- The blocked branches: what is known of them by their queues, and what comes in and leaves.
 use Rattle.std.proofs.Common.{◌≡◌, ◌∙◌, ℕ, zero, suc, ◌+◌, ◌<◌, Bool, true, false, ◌||◌, List, [], ◌∷◌, length, Option, Some, None, refl, ap, sym, subst, arith, length-set}
-use Rattle.std.specs.Prelude.{◌==◌, option_map}
+use Rattle.std.specs.Prelude.{◌==◌, option_map, if◌then◌else◌}
 use Rattle.std.specs.List.{slice_get}
 use Rattle.std.specs.Option.{option_map_or}
-use Rattle.std.proofs.lemmas.Bool.Decides.{nat_tests}
 use Rattle.ccr_base.specs.declared.names.Spot.{Spot}
 use Rattle.ccr_base.specs.declared.names.Spot.TheVariants.{Branch, Site}
 use Rattle.ccr_wiring.specs.declared.parts.Parts.{Parts}
 use Rattle.ccr_wiring.specs.Wirings.{Placement, placement, policy_of, spots}
-use Rattle.ccr_base.proofs.Booleans.{either, or_left, or_right, no_both, eq-self, same_number}
+use Rattle.ccr_base.proofs.Booleans.{either, or_left, or_right, no_both, eq-self, same_number, eq_turned}
 use Rattle.ccr_base.specs.Lists.{has_number}
 use Rattle.ccr_ledger.specs.Rows.{row, with_row, empty_rows}
 use Rattle.ccr_ledger.specs.Books.{Books}
 use Rattle.ccr_ledger.specs.Asked.{room, queue_has_room}
+use Rattle.ccr_ledger.proofs.Tables.{row-other, row-with_row}
+use Rattle.ccr_ledger.proofs.Empty.{row-none, length-empty_rows}
 use Rattle.ccr_engine.specs.Ready.{IsLeastFirst}
 use Rattle.ccr_engine.specs.Numbered.{passes_at}
 use Rattle.ccr_engine.specs.Blocked.{branch_queue, is_on, is_blocked, AreBlocked, Blocks}
@@ -41,17 +42,8 @@ blocked_row (r ∷ rows) k is = of_test (has_number r k) refl is (λ more. block
     of_test true at is there = (0, at)
     of_test false at is there = (suc (there is).0, (there is).1)
 
-row_other : (rows : List (List ℕ)) (q n : ℕ) (items : List ℕ) → (n == q) ≡ false → row (with_row rows q items) n ≡ row rows n
-row_other [] q n items differs = refl
-row_other (r ∷ rows) zero zero items differs = absurd (no_both (eq-self 0) differs)
-row_other (r ∷ rows) zero (suc n) items differs = refl
-row_other (r ∷ rows) (suc q) zero items differs = refl
-row_other (r ∷ rows) (suc q) (suc n) items differs = row_other rows q n items (grind (arith, nat_tests, differs))
-
 pub row_set : (rows : List (List ℕ)) (q : ℕ) (items : List ℕ) → q < length rows → row (with_row rows q items) q ≡ items
-row_set [] q items low = absurd (omega (arith, low))
-row_set (r ∷ rows) zero items low = refl
-row_set (r ∷ rows) (suc q) items low = row_set rows q items (omega (arith, low))
+row_set rows q items low = row-with_row rows q q items low ∙ ap (λ b. if b then items else row rows q) (eq-self q)
 
 -- how many are blocked, each as often as it is at a queue
 abbrev pub total : List (List ℕ) → ℕ
@@ -63,21 +55,11 @@ total_set [] q items low less = absurd (omega (arith, low))
 total_set (r ∷ rows) zero items low less = omega (arith, less)
 total_set (r ∷ rows) (suc q) items low less = omega (arith, total_set rows q items (omega (arith, low)) less)
 
--- where no branch is blocked
-row_empty : (count q : ℕ) → row (empty_rows {T = ℕ} count) q ≡ []
-row_empty zero q = refl
-row_empty (suc count) zero = refl
-row_empty (suc count) (suc q) = row_empty count q
-
-length-empty_rows : (count : ℕ) → length (empty_rows {T = ℕ} count) ≡ count
-length-empty_rows zero = refl
-length-empty_rows (suc count) = ap suc (length-empty_rows count)
-
 pub AreBlocked-none : (w : Parts) → AreBlocked w (empty_rows (length w.queues))
 AreBlocked-none w = record {
-  size = length-empty_rows (length w.queues);
-  on_queue = λ q k is. absurd (no_both is (ap (λ ns. has_number ns k) (row_empty (length w.queues) q)));
-  lowest = λ q. subst IsLeastFirst (sym (row_empty (length w.queues) q)) (λ k at. absurd (cc));
+  size = length-empty_rows ℕ (length w.queues);
+  on_queue = λ q k is. absurd (no_both is (ap (λ ns. has_number ns k) (row-none (length w.queues) q)));
+  lowest = λ q. subst IsLeastFirst (sym (row-none (length w.queues) q)) (λ k at. absurd (cc));
 }
 
 -- the branches of one queue have room together
@@ -102,7 +84,7 @@ same_room w b blocked are q j k one other = room_at w b q j (are.on_queue q j on
 -- one queue's indices change, and no other's
 module _ (old new : List (List ℕ)) (q : ℕ) (others : new ≡ with_row old q (row new q)) where
   rows_else : (n : ℕ) → (n == q) ≡ false → row new n ≡ row old n
-  rows_else n differs = ap (λ rows. row rows n) others ∙ row_other old q n (row new q) differs
+  rows_else n differs = ap (λ rows. row rows n) others ∙ row-other old q n (row new q) (eq_turned n q differs)
 
   same_size : length new ≡ length old
   same_size = ap length others ∙ length-set old q (row new q)

@@ -5,6 +5,7 @@ use Rattle.std.specs.List.{list_any, list_all}
 use Rattle.std.specs.Option.{option_map_or}
 use Rattle.std.proofs.Math.Bool.{or-false}
 use Rattle.std.proofs.lemmas.Bool.Decides.{nat_tests}
+use Rattle.std.proofs.lemmas.List.Elements.{filter-append}
 use Rattle.ccr_base.specs.declared.names.TaskId.{TaskId}
 use Rattle.ccr_base.specs.declared.names.Spot.{Spot}
 use Rattle.ccr_base.specs.declared.names.Spot.TheVariants.{Branch, Site}
@@ -35,9 +36,9 @@ use Rattle.ccr_base.proofs.Options.{some_of}
 use Rattle.ccr_model.proofs.PostNames.{refused_not}
 use Rattle.ccr_model.proofs.OneMoreEvent.{ever_admitted-push, cut-push}
 use Rattle.ccr_model.proofs.Roots.{placement_of_root}
-use Rattle.ccr_base.proofs.SameNames.{same_task-is, same_task-self}
-use Rattle.ccr_model.proofs.TasksLeft.{has_task-append, filter_on, of_filter}
-use Rattle.ccr_model.proofs.TaskLists.{to_without, filter_append, first_rest, has_oldest, of_one}
+use Rattle.ccr_base.proofs.SameNames.{same_task-is, same_task-self, has_task-append}
+use Rattle.ccr_model.proofs.TasksLeft.{filter_on, of_filter}
+use Rattle.ccr_model.proofs.TaskLists.{to_without, first_rest, has_oldest, of_one}
 use Rattle.ccr_model.proofs.WhoWasPut.{ArePlaced-legal, placement_by, new_drop}
 use Rattle.ccr_ledger.proofs.Admissions.{over-other, over-last}
 use Rattle.ccr_engine.specs.Cursor.{admission}
@@ -191,7 +192,7 @@ module _ (w : Parts) (h : List Event) (legal : IsLegal w h) where
     admitted_same : admitted w (h ++ e ∷ []) d ≡ admitted w h d
     admitted_same =
         ap (λ ts. filter now ts) (ever_admitted-push h e)
-        ∙ (filter_append now (ever_admitted h) (admitted_by e)
+        ∙ (filter-append now (ever_admitted h) (admitted_by e)
         ∙ (ap (λ ts. filter now (ever_admitted h) ++ ts) (none_enters e d allowed others)
         ∙ (append-nil (filter now (ever_admitted h))
         ∙ filter_on now (λ u. is_of_domain w h d u && not (is_over h u)) (ever_admitted h) (λ u among. passes u (ever_admitted_fired w h legal u among)))))

@@ -14,8 +14,8 @@ use Rattle.ccr_model.specs.Order.{first, post_from, script_post, fire_from, admi
 use Rattle.ccr_model.proofs.Allowing.{first_allowed}
 use Rattle.ccr_model.proofs.LegalIsCovered.{IsCovered-legal}
 use Rattle.ccr_model.proofs.QuietAllowsNone.{none_if_quiet}
+use Rattle.ccr_model.proofs.PostCounts.{ArePosted-legal}
 use Rattle.ccr_base.proofs.Options.{none_or, none_map, no_head, none-above}
-use Rattle.ccr_laws.proofs.Lines.{ArePosted-legal}
 
 -- no script has a line left, and no task runs
 record NoneLeft (w : Parts) (h : List Event) : Type 0 where

@@ -1,11 +1,12 @@
 -- The desk along a legal history.
-use Rattle.std.proofs.Common.{◌≡◌, ◌∙◌, ℕ, zero, suc, ◌+◌, ◌<◌, ◌≤◌, true, List, [], ◌∷◌, ◌++◌, take, drop, Option, Some, refl, ap, sym, subst, arith, append_assoc}
+use Rattle.std.proofs.Common.{◌≡◌, ◌∙◌, ℕ, ◌+◌, ◌<◌, ◌≤◌, true, List, [], ◌∷◌, ◌++◌, take, drop, Option, Some, refl, sym, subst, arith, append_assoc}
 use Rattle.std.specs.Prelude.{◌^◌}
 use Rattle.std.specs.List.{slice_get}
 use Rattle.std.proofs.lemmas.Bool.Decides.{nat_tests}
 use Rattle.std.proofs.lemmas.List.{map-append}
 use Rattle.ccr_base.specs.declared.names.TaskId.{TaskId}
 use Rattle.ccr_base.proofs.Lists.{take_more}
+use Rattle.ccr_base.proofs.Options.{parted}
 use Rattle.ccr_wiring.specs.declared.parts.Parts.{Parts}
 use Rattle.ccr_wiring.specs.Wirings.{spots}
 use Rattle.ccr_wiring.specs.Valid.{IsValid}
@@ -37,15 +38,6 @@ stands_none w valid c = record { books = keeps-none w; attempt = refl; poster = 
   where
     done : {X : Type 0} (ps : List X) → true ≡ true
     done ps = refl
-
-drop_none : {X : Type 0} (ys : List X) → ys ≡ drop 0 ys
-drop_none [] = refl
-drop_none (z ∷ ys) = refl
-
-parted : {X : Type 0} (xs : List X) (i : ℕ) (x : X) → slice_get xs i ≡ Some x → xs ≡ take i xs ++ x ∷ drop (i + 1) xs
-parted [] i x at = absurd (cc)
-parted (y ∷ xs) zero x at = let one : y ≡ x = cc in rw one (ap (λ zs. x ∷ zs) (drop_none xs))
-parted (y ∷ xs) (suc i) x at = let e : suc i + 1 ≡ suc (i + 1) = omega arith in rw e (ap (λ zs. y ∷ zs) (parted xs i x at))
 
 pub stands_on : (w : Parts) → IsValid w → (c : ℕ) (es : List Event) (i : ℕ) (e : Event) (old new : Desk) → IsLegal w es → slice_get es i ≡ Some e → Stands w c (take i es) old → Follows w c e old new → Stands w c (take (i + 1) es) new
 stands_on w valid c es i e old new legal at stands follows =

@@ -1,22 +1,14 @@
 -- A branch that is live after an event was so before.
-use Rattle.std.proofs.Common.{◌≡◌, ℕ, true, List, [], ◌∷◌, ◌++◌, refl, arith}
-use Rattle.std.proofs.lemmas.Grind.{common_steps}
-use Rattle.std.proofs.lemmas.Bool.Decides.{nat_tests}
+use Rattle.std.proofs.Common.{◌≡◌, ℕ, true, List, [], ◌∷◌, ◌++◌, refl}
 use Rattle.std.specs.Prelude.{Bool}
-use Rattle.ccr_base.specs.declared.names.TaskId.{TaskId}
 use Rattle.ccr_base.specs.declared.policies.Group.{Group}
 use Rattle.ccr_base.specs.declared.policies.Group.TheVariants as groups
 use Rattle.ccr_wiring.specs.declared.parts.Parts.{Parts}
 use Rattle.ccr_model.specs.declared.history.Event.{Event}
 use Rattle.ccr_model.specs.Firings.{Firing, fired_where}
 use Rattle.ccr_model.specs.Live.{is_none_of, is_live_in}
-
-none_before : (ts us : List TaskId) → is_none_of (ts ++ us) ≡ true → is_none_of ts ≡ true
-none_before [] us is = refl
-none_before (t ∷ ts) us is = grind (arith, nat_tests, is)
-
-pub fired_where-append : (test : Firing → Bool) (h es : List Event) → fired_where test (h ++ es) ≡ fired_where test h ++ fired_where test es
-fired_where-append test h es = grind (arith, common_steps)
+use Rattle.ccr_model.proofs.Cutting.{fired_where-append}
+use Rattle.ccr_model.proofs.TaskLists.{none_before}
 
 none_fired_before : (test : Firing → Bool) (h : List Event) (e : Event) → is_none_of (fired_where test (h ++ e ∷ [])) ≡ true → is_none_of (fired_where test h) ≡ true
 none_fired_before test h e is = none_before (fired_where test h) (fired_where test (e ∷ [])) (rw (fired_where-append test h (e ∷ [])) at is)

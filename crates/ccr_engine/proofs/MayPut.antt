@@ -13,20 +13,17 @@ use Rattle.ccr_model.specs.Firings.{firing_of, fired, cut, put, put_by, ever_adm
 use Rattle.ccr_model.specs.Rules.{may_put, needs_no_admission}
 use Rattle.ccr_model.specs.Legal.{IsAllowed, IsLegal}
 use Rattle.ccr_model.proofs.OneMoreEvent.{put-push, cut-push, ever_admitted-push}
-use Rattle.ccr_model.proofs.TasksLeft.{has_task-append}
 use Rattle.ccr_model.proofs.TaskSteps.{firing_named-fire}
-use Rattle.ccr_base.proofs.Booleans.{refuted, no_both, and_false}
-use Rattle.ccr_base.proofs.SameNames.{same_task-is, same_task-self}
+use Rattle.ccr_base.proofs.Booleans.{and_false}
+use Rattle.ccr_base.proofs.SameNames.{same_task-is, same_task-self, has_task-append}
 use Rattle.ccr_model.proofs.FiredTasks.{fired_has}
 use Rattle.ccr_model.proofs.ExclusiveRootsAreAlone.{ever_admitted_fired}
 use Rattle.ccr_model.proofs.Allowing.{OneName-legal}
 use Rattle.ccr_model.proofs.WhoWasPut.{ArePlaced-legal}
 use Rattle.ccr_model.proofs.AllowedFirings.{FiresSo, FiresSo-allowed, firing_named-new, firings-other, WaitingFacts, WaitingFacts-waiting, waits_outside}
 use Rattle.ccr_model.proofs.Cutting.{AdmitFacts, AdmitFacts-allowed, CutFacts-legal, waits_unput, cuts_wait, cut_fired}
-
--- a task that fired before a new one isn't it
-pub other_task : (h : List Event) (t u : TaskId) → has_task (fired h) t ≡ false → has_task (fired h) u ≡ true → same_task t u ≡ false
-other_task h t u new among = refuted (same_task t u) (λ is. (let one : t ≡ u = same_task-is t u is in no_both (subst (λ v. has_task (fired h) v ≡ true) (sym one) among) new))
+use Rattle.ccr_model.proofs.TaskLists.{not_within}
+use Rattle.ccr_model.proofs.LegalIsCovered.{no_member}
 
 -- a waiting task may not be put
 waits_not : (w : Parts) (h : List Event) (i : ℕ) (u : TaskId) → WaitingFacts w h i u → may_put w h u ≡ false
@@ -56,7 +53,7 @@ cut_more a b true d none = rw (none refl) (of_b b)
 -- a firing changes nothing for the tasks that fired before it, whomever it cuts
 pub may_put-fire : (w : Parts) (h : List Event) (t : TaskId) (s : Spot) (ms : List MsgId) (cs : List TaskId) (u : TaskId) → IsLegal w h → IsAllowed w h (Fire t s ms cs) → has_task (fired h) u ≡ true → may_put w (h ++ Fire t s ms cs ∷ []) u ≡ may_put w h u
 may_put-fire w h t s ms cs u legal allowed among =
-    rw (put-push, ever_admitted-push, cut-push, append-nil (put h), append-nil (ever_admitted h), firing_named-fire h t u s ms cs (other_task h t u facts.new_name among), has_task-append (cut h) (cs ++ []) u, append-nil cs)
+    rw (put-push, ever_admitted-push, cut-push, append-nil (put h), append-nil (ever_admitted h), firing_named-fire h t u s ms cs (no_member (fired h) t u facts.new_name among), has_task-append (cut h) (cs ++ []) u, append-nil cs)
     (cut_more (not (has_task (put h) u)) (has_task (cut h) u) (has_task cs u) (option_map_or (λ spot. needs_no_admission w spot || has_task (ever_admitted h) u) (spot_of h u) false) none)
   where
     facts : FiresSo w h t s ms cs
@@ -66,10 +63,6 @@ may_put-fire w h t s ms cs u legal allowed among =
     none is =
         let waits = cuts_wait w h s u (subst (λ ts. has_task ts u ≡ true) facts.cuts is) in
         waits_not w h waits.0 u (WaitingFacts-waiting w h waits.0 u (OneName-legal w h legal) waits.1)
-
--- a new task was not cut, put or admitted
-unused : (ts : List TaskId) (h : List Event) (t : TaskId) → has_task (fired h) t ≡ false → (has_task ts t ≡ true → has_task (fired h) t ≡ true) → has_task ts t ≡ false
-unused ts h t new named = refuted (has_task ts t) (λ is. no_both (named is) new)
 
 only_needs : (a b : Bool) → b ≡ false → a || b ≡ a
 only_needs true b none = refl
@@ -88,16 +81,16 @@ may_put-new w h t s ms cs legal allowed =
     new = facts.new_name
 
     not_put : has_task (put h) t ≡ false
-    not_put = unused (put h) h t new (λ is. fired_has h t ((ArePlaced-legal w h legal).all_fired t is))
+    not_put = not_within (put h) (fired h) t (λ is. fired_has h t ((ArePlaced-legal w h legal).all_fired t is)) new
 
     not_cut : has_task (cut h) t ≡ false
-    not_cut = unused (cut h) h t new (λ is. fired_has h t (cut_fired w h legal t is))
+    not_cut = not_within (cut h) (fired h) t (λ is. fired_has h t (cut_fired w h legal t is)) new
 
     not_ever_admitted : has_task (ever_admitted h) t ≡ false
-    not_ever_admitted = unused (ever_admitted h) h t new (λ is. fired_has h t (ever_admitted_fired w h legal t is))
+    not_ever_admitted = not_within (ever_admitted h) (fired h) t (λ is. fired_has h t (ever_admitted_fired w h legal t is)) new
 
     not_now : has_task cs t ≡ false
-    not_now = unused cs h t new (λ is. (let waits = cuts_wait w h s t (subst (λ ts. has_task ts t ≡ true) facts.cuts is) in let so = WaitingFacts-waiting w h waits.0 t (OneName-legal w h legal) waits.1 in fired_has h t (so.firing, so.is_firing)))
+    not_now = not_within cs (fired h) t (λ is. (let waits = cuts_wait w h s t (subst (λ ts. has_task ts t ≡ true) facts.cuts is) in let so = WaitingFacts-waiting w h waits.0 t (OneName-legal w h legal) waits.1 in fired_has h t (so.firing, so.is_firing))) new
 
 -- an admission lets its task be put, and no other
 pub may_put-admit : (w : Parts) (h : List Event) (t u : TaskId) → IsLegal w h → IsAllowed w h (Admit t) → may_put w (h ++ Admit t ∷ []) u ≡ same_task u t || may_put w h u

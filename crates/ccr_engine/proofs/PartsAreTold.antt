@@ -1,5 +1,5 @@
 -- The parts of the order by the tables are those by the model.
-use Rattle.std.proofs.Common.{◌≡◌, ◌∙◌, ℕ, ◌+◌, ◌<◌, ◌≤◌, Bool, true, false, List, [], ◌∷◌, ◌++◌, length, Option, None, Some, refl, ap, sym, subst, arith}
+use Rattle.std.proofs.Common.{◌≡◌, ◌∙◌, ℕ, ◌+◌, ◌<◌, ◌≤◌, true, false, List, [], ◌∷◌, ◌++◌, length, Option, None, Some, refl, ap, sym, subst, arith}
 use Rattle.std.specs.Prelude.{option_map}
 use Rattle.std.specs.List.{slice_get, list_any}
 use Rattle.std.specs.Option.{option_map_or}
@@ -24,8 +24,9 @@ use Rattle.ccr_model.specs.Legal.{IsAllowed, IsLegal}
 use Rattle.ccr_model.specs.Rules.{drop_at}
 use Rattle.ccr_model.specs.Tasks.{waiting, running, is_of_domain, is_for_queue}
 use Rattle.ccr_model.specs.Order.{post_from, next_attempt, fire_at, fire_from, admit_first, admit_from, put_first, run_task, run_with, start_from}
-use Rattle.ccr_base.proofs.Booleans.{neither, refuted, no_both, or_left}
+use Rattle.ccr_base.proofs.Booleans.{neither, or_left}
 use Rattle.ccr_base.proofs.SameNames.{same_task-self}
+use Rattle.ccr_base.proofs.Lists.{none_narrower}
 use Rattle.ccr_ledger.specs.Books.{Books}
 use Rattle.ccr_ledger.specs.Asked.{drops, made_in}
 use Rattle.ccr_engine.specs.Touched.{posts_to, touches, fires_for, touches_domain}
@@ -40,14 +41,6 @@ use Rattle.ccr_engine.proofs.ClosedDomains.{admission_stays}
 use Rattle.ccr_engine.proofs.EmptyQueues.{start_stays}
 use Rattle.ccr_engine.proofs.Asking.{none_but-gains}
 use Rattle.ccr_engine.proofs.ReadyNumbers.{first_ready, none_ready}
-
--- over plain lists: who passes nowhere by the wider test passes nowhere by the narrower
-none_narrower : {X : Type 0} (narrow wide : X → Bool) (xs : List X) → ((x : X) → narrow x ≡ true → wide x ≡ true) → list_any wide xs ≡ false → list_any narrow xs ≡ false
-none_narrower narrow wide [] within none = refl
-none_narrower narrow wide (x ∷ xs) within none =
-    let outs = neither (wide x) (list_any wide xs) none in
-    let here : narrow x ≡ false = refuted (narrow x) (λ is. no_both (within x is) outs.0) in
-    rw here (none_narrower narrow wide xs within outs.1)
 
 module _ (w : Parts) (c : ℕ) (h : List Event) (b : Books) (told : TablesTell w h b) where
   -- the next line by the tables

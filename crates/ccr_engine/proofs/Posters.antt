@@ -1,7 +1,6 @@
 -- Posters that have no line left.
-use Rattle.std.proofs.Common.{◌≡◌, ℕ, ◌+◌, ◌≤◌, Bool, true, List, [], ◌∷◌, ◌++◌, length, filter, refl, arith}
+use Rattle.std.proofs.Common.{◌≡◌, ℕ, ◌+◌, ◌≤◌, true, List, [], ◌∷◌, ◌++◌, length, refl, arith}
 use Rattle.std.specs.Prelude.{nat_le}
-use Rattle.std.proofs.lemmas.Grind.{common_steps}
 use Rattle.std.proofs.lemmas.Bool.Decides.{nat_tests}
 use Rattle.ccr_base.specs.declared.messages.Msg.{Msg}
 use Rattle.ccr_wiring.specs.declared.parts.PosterPart.{PosterPart}
@@ -9,11 +8,8 @@ use Rattle.ccr_model.specs.declared.history.Event.{Event}
 use Rattle.ccr_model.specs.Posts.{posts, post_of, is_script_of, posts_of_poster}
 use Rattle.ccr_model.proofs.OneMoreEvent.{posts-push}
 use Rattle.ccr_base.proofs.Booleans.{both}
+use Rattle.ccr_base.proofs.Filters.{more_kept}
 use Rattle.ccr_engine.specs.Cursor.{are_done}
-
-more_kept : {X : Type 0} (p : X → Bool) (xs ys : List X) → length (filter p xs) ≤ length (filter p (xs ++ ys))
-more_kept p [] ys = omega arith
-more_kept p (x ∷ xs) ys = grind (arith, common_steps, more_kept p xs ys)
 
 more_lines : (h : List Event) (e : Event) (n : ℕ) → posts_of_poster h n ≤ posts_of_poster (h ++ e ∷ []) n
 more_lines h e n = rw posts-push (more_kept (λ (m : Msg). is_script_of n m.id) (posts h) (post_of e))

@@ -23,14 +23,9 @@ use Rattle.ccr_base.proofs.Options.{some-below, none-above}
 use Rattle.ccr_base.specs.Lists.{has_number}
 use Rattle.ccr_model.proofs.AllowedFirings.{firings-other}
 use Rattle.ccr_model.proofs.TasksOnce.{fired_once}
+use Rattle.ccr_model.proofs.TaskLists.{has_at}
 use Rattle.ccr_engine.specs.Ready.{AreReady, IsLeast}
 use Rattle.ccr_engine.proofs.MayPut.{may_put-fire, may_put-new, may_put-admit, may_put-put, may_put-other}
-
--- who stands at an index is among them
-pub has_at : (ts : List TaskId) (n : ℕ) (t : TaskId) → slice_get ts n ≡ Some t → has_task ts t ≡ true
-has_at [] n t at = absurd (cc)
-has_at (x ∷ ts) zero t at = let one : t ≡ x = cc in or_left (same_task t x) (has_task ts t) (rw one (same_task-self x))
-has_at (x ∷ ts) (suc n) t at = or_right (same_task t x) (has_task ts t) (has_at ts n t at)
 
 zero_suc : (m : ℕ) → (zero == suc m) ≡ false
 zero_suc m = grind (arith, nat_tests)

@@ -121,10 +121,6 @@ could_not w t b k out = of_option (slice_get (spots w) k) out
     of_option None out = refl
     of_option (Some s) out = fires_parts w t b s ∙ of_bools (lives w b s) (room w b s) (is_some (selection_at w b s)) out
 
-none_some : {X : Type 0} (o : Option X) → o ≡ None → is_some o ≡ false
-none_some None none = refl
-none_some (Some x) none = absurd (cc)
-
 -- what has room and does not fire could not fire
 pub asked_vain : (w : Parts) (t : TaskId) (b : Books) (k : ℕ) → passes_at (room w b) (spots w) k ≡ true → option_and_then (fire_in w t b) (slice_get (spots w) k) ≡ None → passes_at (could_fire_in w b) (spots w) k ≡ false
 asked_vain w t b k roomy none = of_option (slice_get (spots w) k) roomy none
@@ -136,7 +132,7 @@ asked_vain w t b k roomy none = of_option (slice_get (spots w) k) roomy none
 
     of_option : (o : Option Spot) → option_map_or (room w b) o false ≡ true → option_and_then (fire_in w t b) o ≡ None → option_map_or (could_fire_in w b) o false ≡ false
     of_option None roomy none = refl
-    of_option (Some s) roomy none = of_bools (lives w b s) (room w b s) (is_some (selection_at w b s)) roomy (sym (fires_parts w t b s) ∙ none_some (fire_in w t b s) none)
+    of_option (Some s) roomy none = of_bools (lives w b s) (room w b s) (is_some (selection_at w b s)) roomy (sym (fires_parts w t b s) ∙ ap is_some none)
 
 -- none before the limit fires, where none that is touched is before it
 none_can : (w : Parts) (t : TaskId) (b : Books) (touched : List ℕ) (blocked : List (List ℕ)) (limit : Option ℕ) → IsStillIn w b touched blocked → IsFullBefore w b blocked limit → ((k : ℕ) → is_before limit k ≡ true → has_number touched k ≡ false) → IsNoneBefore w t b limit

@@ -1,42 +1,29 @@
 -- The spots that take from a port, by their indices, one by one.
-use Rattle.std.proofs.Common.{◌≡◌, ◌∙◌, ℕ, zero, suc, ◌+◌, ◌<◌, ◌≤◌, Bool, true, false, ◌||◌, List, [], ◌∷◌, length, take, Option, None, Some, refl, ap, sym}
+use Rattle.std.proofs.Common.{◌≡◌, ◌∙◌, ℕ, ◌+◌, ◌<◌, ◌≤◌, Bool, true, false, ◌||◌, List, [], length, take, Option, None, Some, refl, ap, sym}
 use Rattle.std.specs.Prelude.{◌==◌, filter}
 use Rattle.std.specs.List.{slice_get, list_any}
 use Rattle.std.specs.Option.{option_map_or}
-use Rattle.std.proofs.Math.Bool.{or-false, and-true}
+use Rattle.std.proofs.Math.Bool.{and-true}
 use Rattle.std.proofs.Math.ListN.{get_or}
 use Rattle.std.proofs.lemmas.List.{take_all}
-use Rattle.std.proofs.lemmas.List.Folds.{list_any-append}
 use Rattle.std.proofs.lemmas.Map.Views.{any-filter_same}
 use Rattle.std.proofs.lemmas.Option.{slice_get-get_or}
 use Rattle.ccr_base.specs.declared.names.Spot.{Spot}
-use Rattle.ccr_base.specs.declared.names.Spot.TheVariants.{Branch, Site}
 use Rattle.ccr_base.specs.Names.{same_spot}
-use Rattle.ccr_base.proofs.Booleans.{eq-self, or_left, or_right}
-use Rattle.ccr_base.proofs.Lists.{take_more}
+use Rattle.ccr_base.proofs.Lists.{any_more, any_at}
 use Rattle.ccr_wiring.specs.declared.parts.Parts.{Parts}
 use Rattle.ccr_wiring.specs.Takers.{spots_at, takes_from}
 use Rattle.ccr_wiring.specs.Wirings.{spots}
 use Rattle.ccr_wiring.proofs.Lists.{any_none}
-use Rattle.ccr_base.proofs.SameNames.{same_spot-is}
+use Rattle.ccr_base.proofs.SameNames.{same_spot-is, same_spot-self}
 use Rattle.ccr_engine.specs.Indices.{first_index}
 use Rattle.ccr_engine.specs.Numbered.{Gains, passes_at}
 use Rattle.ccr_engine.proofs.Gaining.{gains-both, gains-same}
 use Rattle.ccr_engine.proofs.SpotIndices.{spot_once}
 
-same_spot-self : (s : Spot) → same_spot s s ≡ true
-same_spot-self (Branch b) = eq-self b
-same_spot-self (Site b k) = rw (eq-self b, eq-self k) refl
-
 -- a spot is found in a list where it stands
 found : (ss : List Spot) (n : ℕ) (x : Spot) → slice_get ss n ≡ Some x → list_any (λ s. same_spot s x) ss ≡ true
-found [] n x at = absurd (cc)
-found (s ∷ ss) zero x at = let one : s ≡ x = cc in or_left (same_spot s x) (list_any (λ t. same_spot t x) ss) (rw one (same_spot-self x))
-found (s ∷ ss) (suc n) x at = or_right (same_spot s x) (list_any (λ t. same_spot t x) ss) (found ss n x at)
-
--- one item more is looked at
-any_more : {T : Type 0} (test : T → Bool) (xs : List T) (i : ℕ) (x : T) → slice_get xs i ≡ Some x → list_any test (take (i + 1) xs) ≡ list_any test (take i xs) || test x
-any_more test xs i x at = rw (take_more xs i x at, list_any-append test (take i xs) (x ∷ [])) (ap (λ b. list_any test (take i xs) || b) (or-false (test x)))
+found ss n x at = any_at (λ s. same_spot s x) ss n x at (same_spot-self x)
 
 -- whether one of these spots stands at the index
 abbrev pub stands_at : Parts → List Spot → ℕ → Bool

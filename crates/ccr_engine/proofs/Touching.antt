@@ -1,9 +1,10 @@
 -- A spot that can fire, room aside, after an event that does not touch it could before.
-use Rattle.std.proofs.Common.{◌≡◌, ℕ, zero, suc, ◌<◌, Bool, true, false, not, ◌&&◌, List, [], ◌∷◌, ◌++◌, length, filter, drop, Option, Some, None, refl, ap, ◌∙◌, arith, append-nil, length-append}
+use Rattle.std.proofs.Common.{◌≡◌, ℕ, zero, suc, ◌<◌, true, false, not, ◌&&◌, List, [], ◌∷◌, ◌++◌, length, drop, Option, Some, None, refl, ap, ◌∙◌, arith, append-nil, length-append}
 use Rattle.std.specs.Prelude.{nat_lt}
 use Rattle.std.specs.List.{list_any}
 use Rattle.std.specs.Option.{option_map_or}
 use Rattle.std.proofs.lemmas.Bool.Decides.{nat_tests}
+use Rattle.std.proofs.lemmas.List.Elements.{filter-append}
 use Rattle.ccr_base.specs.declared.names.TaskId.{TaskId}
 use Rattle.ccr_base.specs.declared.names.Spot.{Spot}
 use Rattle.ccr_base.specs.declared.names.Spot.TheVariants.{Branch, Site}
@@ -21,12 +22,13 @@ use Rattle.ccr_model.specs.Legal.{IsLegal}
 use Rattle.ccr_model.proofs.OneMoreEvent.{yielded-push, firings-push}
 use Rattle.ccr_model.proofs.TasksLeft.{filter_on}
 use Rattle.ccr_base.proofs.Booleans.{both, neither, refuted, no_both}
-use Rattle.ccr_model.proofs.TaskLists.{filter_append}
+use Rattle.ccr_base.proofs.Filters.{none_pass}
 use Rattle.ccr_engine.specs.Touched.{posts_to, touches_branch, touches}
 use Rattle.ccr_engine.specs.Cursor.{could_fire}
-use Rattle.ccr_engine.proofs.Lives.{live_before, fired_where-append}
+use Rattle.ccr_engine.proofs.Lives.{live_before}
 use Rattle.ccr_engine.proofs.LessIsThereToTake.{less_before, enough_before, some_before}
 use Rattle.ccr_model.proofs.Suspending.{yielded_fired, yields_stays}
+use Rattle.ccr_model.proofs.Cutting.{fired_where-append}
 
 -- a branch
 placement_before : (w : Parts) (h : List Event) (e : Event) (n : ℕ) (o : Option Placement) → option_map_or (touches_branch e) o false ≡ false
@@ -52,19 +54,13 @@ left_some n [] low = absurd (omega arith)
 left_some zero (t ∷ ts) low = grind (arith, nat_tests)
 left_some (suc n) (t ∷ ts) low = left_some n ts (omega arith)
 
-none_pass : (p : TaskId → Bool) (ts : List TaskId) → list_any p ts ≡ false → filter p ts ≡ []
-none_pass p [] none = refl
-none_pass p (t ∷ ts) none =
-    let outs = neither (p t) (list_any p ts) none in
-    rw outs.0 (none_pass p ts outs.1)
-
 -- nobody more is suspended at the site
 of_other : (w : Parts) (h : List Event) (e : Event) (site : Spot) → firing_of e ≡ [] → list_any (yields_at h site) (yielded_by e) ≡ false → yielded_at (h ++ e ∷ []) site ≡ yielded_at h site
 of_other w h e site other none =
     let same : firings (h ++ e ∷ []) ≡ firings h = rw (firings-push, other) (append-nil (firings h)) in
     rw (yielded-push h e)
     (filter_on (yields_at (h ++ e ∷ []) site) (yields_at h site) (yielded h ++ yielded_by e) (λ u is. rw same refl)
-    ∙ (filter_append (yields_at h site) (yielded h) (yielded_by e) ∙ rw (none_pass (yields_at h site) (yielded_by e) none) (append-nil (yielded_at h site))))
+    ∙ (filter-append (yields_at h site) (yielded h) (yielded_by e) ∙ rw (none_pass (yields_at h site) (yielded_by e) none) (append-nil (yielded_at h site))))
 
 yielded_at-same : (w : Parts) (h : List Event) (e : Event) (site : Spot) → IsLegal w h → list_any (yields_at h site) (yielded_by e) ≡ false → yielded_at (h ++ e ∷ []) site ≡ yielded_at h site
 yielded_at-same w h (Fire t s ms cs) site legal none = rw (yielded-push h (Fire t s ms cs), append-nil (yielded h)) (filter_on (yields_at (h ++ Fire t s ms cs ∷ []) site) (yields_at h site) (yielded h) (λ u is. yields_stays h (Fire t s ms cs ∷ []) site u (yielded_fired w h legal u is)))

@@ -14,12 +14,12 @@ use Rattle.ccr_base.specs.Selection.{fitting, is_choosable, selection}
 use Rattle.ccr_model.specs.declared.history.Event.{Event}
 use Rattle.ccr_model.specs.Posts.{posts, taken, held}
 use Rattle.ccr_model.specs.Selection.{names_of, selection_of_slots, is_selection}
-use Rattle.ccr_base.proofs.Booleans.{both}
+use Rattle.ccr_base.proofs.Booleans.{both, not_not}
 use Rattle.ccr_base.proofs.Filters.{filter_swap}
-use Rattle.ccr_model.proofs.FirstNames.{names_of-append, same_names}
+use Rattle.ccr_model.proofs.FirstNames.{same_names}
 use Rattle.ccr_base.proofs.Options.{some_of}
-use Rattle.ccr_base.proofs.Lists.{all_weaker}
-use Rattle.ccr_base.proofs.SameNames.{same_message-self}
+use Rattle.ccr_base.proofs.Lists.{all_weaker, any_left, any_right}
+use Rattle.ccr_base.proofs.SameNames.{same_message-self, names_of-append}
 use Rattle.ccr_model.proofs.TakenOnce.{joined_some}
 use Rattle.ccr_model.proofs.MessageNames.{any_fits}
 use Rattle.ccr_gen.specs.Generated.{any_of, generated}
@@ -46,34 +46,21 @@ fall (suc n) wide strict other stronger (x ∷ ms) gone = by (wide x) (other x) 
     by true true true ea eb ec gone weak less same = grind (arith, ea, eb, ec, gone)
     by true true false ea eb ec gone weak less same = grind (arith, ea, eb, ec, gone, less)
 
--- each name of a list is among its names and others
-pub has_more : (front : List MsgId) (names : List MsgId) (name : MsgId) → has_message names name ≡ true → has_message (front ++ names) name ≡ true
-has_more [] names name is = is
-has_more (n ∷ front) names name is = grind (arith, has_more front names name is)
-
-pub has_front : (names back : List MsgId) (name : MsgId) → has_message names name ≡ true → has_message (names ++ back) name ≡ true
-has_front [] back name is = absurd cc
-has_front (n ∷ names) back name is = grind (arith, has_front names back name)
-
 pub all_named : (ms : List Msg) → list_all (λ (x : Msg). has_message (names_of ms) x.id) ms ≡ true
 all_named [] = refl
 all_named (m ∷ ms) =
-    let others = all_weaker (λ (x : Msg). has_message (names_of ms) x.id) (λ (x : Msg). has_message (names_of (m ∷ ms)) x.id) (λ x is. has_more (m.id ∷ []) (names_of ms) x.id is) ms (all_named ms) in
+    let others = all_weaker (λ (x : Msg). has_message (names_of ms) x.id) (λ (x : Msg). has_message (names_of (m ∷ ms)) x.id) (λ x is. any_right (same_message x.id) (m.id ∷ []) (names_of ms) is) ms (all_named ms) in
     rw (same_message-self m.id, others) refl
-
-pub not_wide : (b : Bool) → b ≡ true → not (not b) ≡ true
-not_wide true is = refl
-not_wide false is = absurd cc
 
 -- what a firing names is open no more
 pub all_gone : (gone back : List MsgId) (ms : List Msg) → list_all (λ (x : Msg). not (is_open (gone ++ (names_of ms ++ back)) x)) ms ≡ true
-all_gone gone back ms = all_weaker (λ (x : Msg). has_message (names_of ms) x.id) (λ (x : Msg). not (is_open (gone ++ (names_of ms ++ back)) x)) (λ x is. not_wide _ (has_more gone (names_of ms ++ back) x.id (has_front (names_of ms) back x.id is))) ms (all_named ms)
+all_gone gone back ms = all_weaker (λ (x : Msg). has_message (names_of ms) x.id) (λ (x : Msg). not (is_open (gone ++ (names_of ms ++ back)) x)) (λ x is. not_not (has_message (gone ++ (names_of ms ++ back)) x.id) ∙ any_right (same_message x.id) gone (names_of ms ++ back) (any_left (same_message x.id) (names_of ms) back is)) ms (all_named ms)
 
 pub still_open : (gone names : List MsgId) (x : Msg) → is_open (gone ++ names) x ≡ true → is_open gone x ≡ true
 still_open gone names x is = by (has_message gone x.id) refl is
   where
     by : (b : Bool) → has_message gone x.id ≡ b → not (has_message (gone ++ names) x.id) ≡ true → not (has_message gone x.id) ≡ true
-    by true e is = let more = has_front gone names x.id e in absurd (cc)
+    by true e is = let more = any_left (same_message x.id) gone names e in absurd (cc)
     by false e is = rw e refl
 
 -- the messages of the port

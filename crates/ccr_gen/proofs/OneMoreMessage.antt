@@ -14,7 +14,8 @@ use Rattle.ccr_model.specs.Posts.{is_script_of, is_message_of, made_by_poster}
 use Rattle.ccr_model.specs.Firings.{Firing}
 use Rattle.ccr_model.proofs.PostNames.{made_by_poster-push, made_by_poster-other, made_by_poster-task}
 use Rattle.ccr_base.proofs.SameNames.{same_task-is, same_task-self}
-use Rattle.ccr_gen.specs.Weights.{weight, value, lines, due, by_task, left}
+use Rattle.ccr_gen.specs.Lines.{lines, left}
+use Rattle.ccr_gen.specs.Weights.{value, due, by_task}
 
 pub due_firing : (ms : List Msg) (fs : List Firing) (f : Firing) → due ms (fs ++ f ∷ []) ≤ due ms fs + value f.spot
 due_firing ms [] f = grind arith
@@ -45,36 +46,36 @@ due_paid ms m t place (g ∷ fs) f named none is = by (same_task g.task t) refl 
     by false same found rest = let less = rest found in grind (arith, nat_tests, by_more ms m g.task, less)
 
 -- a task's post leaves the scripts as they were
-pub left_task : (ms : List Msg) (m : Msg) (t : TaskId) (place number : ℕ) (ps : List PosterPart) → m.id ≡ Task t place → left (ms ++ m ∷ []) number ps ≡ left ms number ps
-left_task ms m t place number [] named = refl
-left_task ms m t place number (p ∷ ps) named = rw (made_by_poster-task ms m number t place named, left_task ms m t place (number + 1) ps named) refl
+pub left_task : (weight : ℕ → ℕ) (ms : List Msg) (m : Msg) (t : TaskId) (place number : ℕ) (ps : List PosterPart) → m.id ≡ Task t place → left weight (ms ++ m ∷ []) number ps ≡ left weight ms number ps
+left_task weight ms m t place number [] named = refl
+left_task weight ms m t place number (p ∷ ps) named = rw (made_by_poster-task ms m number t place named, left_task weight ms m t place (number + 1) ps named) refl
 
 -- a script's post leaves the later scripts as they were
-left_later : (ms : List Msg) (m : Msg) (actor place number : ℕ) (ps : List PosterPart) → m.id ≡ Script actor place → actor < number → left (ms ++ m ∷ []) number ps ≡ left ms number ps
-left_later ms m actor place number [] named less = refl
-left_later ms m actor place number (p ∷ ps) named less =
+left_later : (weight : ℕ → ℕ) (ms : List Msg) (m : Msg) (actor place number : ℕ) (ps : List PosterPart) → m.id ≡ Script actor place → actor < number → left weight (ms ++ m ∷ []) number ps ≡ left weight ms number ps
+left_later weight ms m actor place number [] named less = refl
+left_later weight ms m actor place number (p ∷ ps) named less =
     let apart : (actor == number) ≡ false = grind (arith, nat_tests, less) in
-    rw (made_by_poster-other ms m number actor place named apart, left_later ms m actor place (number + 1) ps named (omega arith)) refl
+    rw (made_by_poster-other ms m number actor place named apart, left_later weight ms m actor place (number + 1) ps named (omega arith)) refl
 
-lines_drop : (n : ℕ) (ss : List Sent) (s : Sent) → slice_get ss n ≡ Some s → lines (drop n ss) ≡ weight s.port + lines (drop (n + 1) ss)
-lines_drop n [] s is = absurd cc
-lines_drop zero (x ∷ ss) s is = let same : x ≡ s = cc in rw same refl
-lines_drop (suc n) (x ∷ ss) s is = let on : suc n + 1 ≡ suc (n + 1) = omega arith in rw on (lines_drop n ss s is)
+lines_drop : (weight : ℕ → ℕ) (n : ℕ) (ss : List Sent) (s : Sent) → slice_get ss n ≡ Some s → lines weight (drop n ss) ≡ weight s.port + lines weight (drop (n + 1) ss)
+lines_drop weight n [] s is = absurd cc
+lines_drop weight zero (x ∷ ss) s is = let same : x ≡ s = cc in rw same refl
+lines_drop weight (suc n) (x ∷ ss) s is = let on : suc n + 1 ≡ suc (n + 1) = omega arith in rw on (lines_drop weight n ss s is)
 
 -- a script's post is left no more
-pub left_script : (ms : List Msg) (m : Msg) (actor place number k : ℕ) (ps : List PosterPart) (p : PosterPart) (s : Sent) → m.id ≡ Script actor place → actor ≡ number + k → slice_get ps k ≡ Some p → slice_get p.posts (made_by_poster ms actor) ≡ Some s
-    → left (ms ++ m ∷ []) number ps + weight s.port ≤ left ms number ps
-left_script ms m actor place number k [] p s named at found line = absurd cc
-left_script ms m actor place number zero (q ∷ ps) p s named at found line =
+pub left_script : (weight : ℕ → ℕ) (ms : List Msg) (m : Msg) (actor place number k : ℕ) (ps : List PosterPart) (p : PosterPart) (s : Sent) → m.id ≡ Script actor place → actor ≡ number + k → slice_get ps k ≡ Some p → slice_get p.posts (made_by_poster ms actor) ≡ Some s
+    → left weight (ms ++ m ∷ []) number ps + weight s.port ≡ left weight ms number ps
+left_script weight ms m actor place number k [] p s named at found line = absurd cc
+left_script weight ms m actor place number zero (q ∷ ps) p s named at found line =
     let same : q ≡ p = cc in
     let its : actor ≡ number = omega (arith, at) in
     let own : is_script_of number m.id ≡ true = rw (named, its) (grind (arith, nat_tests)) in
     let more : made_by_poster (ms ++ m ∷ []) number ≡ made_by_poster ms number + 1 = grind (arith, made_by_poster-push ms m number, own) in
     let next : slice_get q.posts (made_by_poster ms number) ≡ Some s = subst (λ (n : ℕ). slice_get q.posts (made_by_poster ms n) ≡ Some s) its (subst (λ (x : PosterPart). slice_get x.posts (made_by_poster ms actor) ≡ Some s) (sym same) line) in
-    let rest = left_later ms m actor place (number + 1) ps named (omega (arith, its)) in
-    let step = lines_drop (made_by_poster ms number) q.posts s next in
+    let rest = left_later weight ms m actor place (number + 1) ps named (omega (arith, its)) in
+    let step = lines_drop weight (made_by_poster ms number) q.posts s next in
     rw (more, rest) (omega (arith, step))
-left_script ms m actor place number (suc k) (q ∷ ps) p s named at found line =
+left_script weight ms m actor place number (suc k) (q ∷ ps) p s named at found line =
     let apart : (actor == number) ≡ false = grind (arith, nat_tests, at) in
-    let less = left_script ms m actor place (number + 1) k ps p s named (omega (arith, at)) found line in
+    let less = left_script weight ms m actor place (number + 1) k ps p s named (omega (arith, at)) found line in
     rw (made_by_poster-other ms m number actor place named apart) (omega (arith, less))

@@ -8,11 +8,11 @@ use Rattle.ccr_base.specs.declared.names.TaskId.{TaskId}
 use Rattle.ccr_base.specs.declared.messages.Sent.{Sent}
 use Rattle.ccr_base.specs.declared.handlers.Action.{Action}
 use Rattle.ccr_handler.specs.Playing.{play, actions_from}
+use Rattle.ccr_handler.proofs.LaterSegments.{actions_from-past}
 use Rattle.ccr_wiring.specs.Wirings.{branch_of, segment_of, exception_port, actions_at}
 use Rattle.ccr_model.specs.declared.history.Event.{Event}
 use Rattle.ccr_model.specs.Firings.{Firing, firing_named}
 use Rattle.ccr_model.specs.TaskData.{Load, play_at, load_at, play_of, no_play}
-use Rattle.ccr_model.proofs.Segments.{actions_from-past}
 use Rattle.ccr_gen.specs.Generated.{generated}
 use Rattle.ccr_gen.specs.Weights.{weight, value}
 

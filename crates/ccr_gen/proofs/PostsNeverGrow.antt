@@ -1,5 +1,5 @@
 -- What tasks have posted, with all that may still come of it, never grows.
-use Rattle.std.proofs.Common.{◌≡◌, ℕ, zero, suc, ◌+◌, ◌*◌, ◌<◌, ◌≤◌, Bool, true, false, not, ◌&&◌, ◌||◌, cond, List, [], ◌∷◌, ◌++◌, filter, Some, None, refl, ap, ◌∙◌, subst, append-nil, arith}
+use Rattle.std.proofs.Common.{◌≡◌, ℕ, zero, suc, ◌+◌, ◌*◌, ◌<◌, ◌≤◌, Bool, true, false, not, ◌&&◌, ◌||◌, List, [], ◌∷◌, ◌++◌, filter, Some, None, refl, ap, subst, append-nil, arith}
 use Rattle.std.specs.Prelude.{◌==◌, ◌%◌, if◌then◌else◌, option_and_then}
 use Rattle.std.specs.List.{slice_get}
 use Rattle.std.specs.Option.{option_map_or}
@@ -25,10 +25,11 @@ use Rattle.ccr_base.proofs.Options.{some_of, some_then}
 use Rattle.ccr_model.proofs.PostNames.{along, refused_not}
 use Rattle.ccr_model.proofs.OneMoreEvent.{posts-push, firings-push}
 use Rattle.ccr_model.proofs.TakenOnce.{FireFacts-allowed, taken-push}
-use Rattle.ccr_gen.specs.Posters.{sent, script, posters}
+use Rattle.ccr_gen.specs.Posters.{script, posters}
 use Rattle.ccr_gen.specs.Generated.{generated}
-use Rattle.ccr_gen.proofs.Lines.{script_more}
-use Rattle.ccr_gen.specs.Weights.{weight, load, lines, by_task, is_open, potential, whole}
+use Rattle.ccr_gen.proofs.Lines.{script_lines, one_of_four}
+use Rattle.ccr_gen.specs.Lines.{lines}
+use Rattle.ccr_gen.specs.Weights.{weight, load, by_task, is_open, potential, whole}
 use Rattle.ccr_gen.proofs.Loads.{fire_falls}
 use Rattle.ccr_gen.proofs.Plays.{post_pays}
 use Rattle.ccr_gen.proofs.OneMoreMessage.{due_firing, due_later, due_paid, left_task, left_script}
@@ -60,7 +61,7 @@ post_falls size h m (Script actor place) named is =
     let port = posted_port m its.0 its.2 in
     let weighs : weight m.port ≡ weight its.0.port = ap weight port in
     let there : slice_get poster.0.posts (made_by_poster (posts h) actor) ≡ Some its.0 = subst (λ (n : ℕ). slice_get poster.0.posts n ≡ Some its.0) next poster.2 in
-    let a = left_script (posts h) m actor place 0 actor (posters size) poster.0 its.0 named (omega arith) poster.1 there in
+    let a = left_script weight (posts h) m actor place 0 actor (posters size) poster.0 its.0 named (omega arith) poster.1 there in
     let b = load_more (taken h) (posts h) m in
     let c = due_later (posts h) m (firings h) in
     let d : task_messages (posts h ++ m ∷ []) ≡ task_messages (posts h) = let out : is_task_message m.id ≡ false = rw named refl in grind (arith, tasked_more (posts h) m, out) in
@@ -74,7 +75,7 @@ post_falls size h m (Task t place) named is =
     let none : by_task (posts h) t ≡ 0 = grind (arith, nat_tests, counted, paid.2) in
     let port = posted_port m its.0 its.2 in
     let weighs : weight m.port ≡ weight its.0.port = ap weight port in
-    let a = left_task (posts h) m t place 0 (posters size) named in
+    let a = left_task weight (posts h) m t place 0 (posters size) named in
     let b = load_more (taken h) (posts h) m in
     let c = due_paid (posts h) m t place (firings h) paid.0 named none paid.1 in
     let d : task_messages (posts h ++ m ∷ []) ≡ task_messages (posts h) + 1 = let own : is_task_message m.id ≡ true = rw named refl in grind (arith, tasked_more (posts h) m, own) in
@@ -98,28 +99,11 @@ never_grows size h legal = along (generated size) (λ g. whole size g ≤ whole 
 
 -- ---- what all scripts lead to
 
-lines-append : (xs ys : List Sent) → lines (xs ++ ys) ≡ lines xs + lines ys
-lines-append [] ys = omega arith
-lines-append (x ∷ xs) ys = omega (arith, lines-append xs ys)
-
-script_lines : (size number : ℕ) → lines (script (size + 1) number) ≡ lines (script size number) + lines (cond (size % 4 == number) (sent size ∷ []) [])
-script_lines size number = ap lines (script_more size number) ∙ lines-append (script size number) (cond (size % 4 == number) (sent size ∷ []) [])
-
-one_of_four : (k : ℕ) → lines (cond (k % 4 == 0) (sent k ∷ []) []) + lines (cond (k % 4 == 1) (sent k ∷ []) []) + lines (cond (k % 4 == 2) (sent k ∷ []) []) + lines (cond (k % 4 == 3) (sent k ∷ []) []) ≡ weight (k % 3)
-one_of_four k = by (k % 4) (grind arith)
-  where
-    by : (r : ℕ) → r < 4 → lines (cond (r == 0) (sent k ∷ []) []) + lines (cond (r == 1) (sent k ∷ []) []) + lines (cond (r == 2) (sent k ∷ []) []) + lines (cond (r == 3) (sent k ∷ []) []) ≡ weight (k % 3)
-    by zero lt = omega arith
-    by (suc zero) lt = omega arith
-    by (suc (suc zero)) lt = omega arith
-    by (suc (suc (suc zero))) lt = omega arith
-    by (suc (suc (suc (suc r)))) lt = absurd (omega arith)
-
 abbrev all_lines : ℕ → ℕ
-all_lines size = lines (script size 0) + lines (script size 1) + lines (script size 2) + lines (script size 3)
+all_lines size = lines weight (script size 0) + lines weight (script size 1) + lines weight (script size 2) + lines weight (script size 3)
 
 all_more : (size : ℕ) → all_lines (size + 1) ≡ all_lines size + weight (size % 3)
-all_more size = omega (arith, script_lines size 0, script_lines size 1, script_lines size 2, script_lines size 3, one_of_four size)
+all_more size = omega (arith, script_lines weight size 0, script_lines weight size 1, script_lines weight size 2, script_lines weight size 3, one_of_four weight size)
 
 -- a post of three is one of a, one of b, one of c
 spare : ℕ → ℕ

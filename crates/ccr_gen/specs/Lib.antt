@@ -1,3 +1,4 @@
 pub mod Posters
 pub mod Generated
+pub mod Lines
 pub mod Weights

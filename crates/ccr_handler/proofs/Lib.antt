@@ -1,2 +1,3 @@
 pub mod SamePlays
 pub mod PlaysLeft
+pub mod LaterSegments

@@ -1,5 +1,5 @@
 -- Plays by a list of the exception ports, and of no actions.
-use Rattle.std.proofs.Common.{◌≡◌, ℕ, zero, suc, List, [], ◌∷◌, map, Option, refl, ap}
+use Rattle.std.proofs.Common.{◌≡◌, ℕ, List, [], ◌∷◌, map, Option, refl, ap}
 use Rattle.std.specs.List.{slice_get}
 use Rattle.std.proofs.lemmas.Option.{slice_get-map}
 use Rattle.ccr_wiring.specs.declared.parts.Parts.{Parts}
@@ -8,13 +8,8 @@ use Rattle.ccr_wiring.specs.Wirings.{exception_port}
 use Rattle.ccr_base.specs.declared.handlers.Action.{Action}
 use Rattle.ccr_base.specs.declared.handlers.Action.TheVariants.{Post, Fail, Add, Remove, Await}
 use Rattle.ccr_cause.specs.Causes.{with_cause, without_cause}
-use Rattle.ccr_handler.specs.Playing.{after_await, actions_from, exceptions, play, with_post}
+use Rattle.ccr_handler.specs.Playing.{exceptions, play, with_post}
 use Rattle.ccr_handler.specs.Evaluating.{value_of}
-
--- no actions have no later segment
-pub actions_from-none : (segment : ℕ) → actions_from segment [] ≡ []
-actions_from-none zero = refl
-actions_from-none (suc segment) = ap after_await (actions_from-none segment)
 
 exceptions-same : (f g : ℕ → Option ℕ) → ((k : ℕ) → f k ≡ g k) → (value : List ℕ) (causes : List ℕ) → exceptions f value causes ≡ exceptions g value causes
 exceptions-same f g same value [] = refl

@@ -15,7 +15,7 @@ use Rattle.ccr_base.specs.declared.names.Spot.{Spot}
 use Rattle.ccr_base.specs.Names.{same_task, has_task}
 use Rattle.ccr_base.proofs.Options.{not_some}
 use Rattle.ccr_base.proofs.SameNames.{same_task-is}
-use Rattle.ccr_base.proofs.Lists.{none_mapped}
+use Rattle.ccr_base.proofs.Lists.{none_mapped, list_any-map}
 use Rattle.ccr_places.specs.Interleaves.{Waiting}
 use Rattle.ccr_places.specs.TaskSets.{task_cmp, len-there, same_task_equiv}
 use Rattle.ccr_places.specs.TaskTables.{tasks_where, kept_of, contains-tasks_where, tasks_where-put, tasks_where-gone, tasks_where-same, len-tasks_where, len-tasks_where-le}
@@ -91,10 +91,6 @@ module _ (old new : List (TaskId × Admission)) (waiting : List Waiting) (shared
       by true e = absurd (true≢false (ap is_some (sym (tied.outside task e) ∙ none)))
       by false e = refl
 
-  list_any-names : (ws : List Waiting) → list_any (same_task task) (map (λ (w : Waiting). w.task) ws) ≡ list_any (λ (w : Waiting). same_task task w.task) ws
-  list_any-names [] = refl
-  list_any-names (w ∷ ws) = ap (λ b. same_task task w.task || b) (list_any-names ws)
-
   pub sets_fired : (tasks_where is_shared new ≡ tasks_where is_shared old) × (tasks_where is_alone new ≡ tasks_where is_alone old)
   sets_fired = (
     tasks_where-same is_shared old new task (Some Outside) tied.distinct distinct updates refl (ap (λ k. option_map_or is_shared k false) none),
@@ -107,7 +103,7 @@ module _ (old new : List (TaskId × Admission)) (waiting : List Waiting) (shared
       let names : Waiting → TaskId = λ w. w.task in
       record {
         distinct = distinct;
-        waiting_distinct = rw (map-append names waiting (newest ∷ [])) (IsDistinct-push same_task_equiv (map names waiting) task tied.waiting_distinct (list_any-names waiting ∙ not_waiting));
+        waiting_distinct = rw (map-append names waiting (newest ∷ [])) (IsDistinct-push same_task_equiv (map names waiting) task tied.waiting_distinct (list_any-map (same_task task) (λ (w : Waiting). w.task) waiting ∙ not_waiting));
         outside = λ other e. updates other ∙ by other (same_task task other) refl (sym (list_any-append (λ (w : Waiting). same_task other w.task) waiting (newest ∷ [])) ∙ e);
         shared_count = tied.shared_count ∙ ap set.len (sym (sets_fired.0));
         alone_count = tied.alone_count ∙ ap set.len (sym (sets_fired.1));

@@ -1,11 +1,11 @@
 -- A valid wiring's names are ASCII.
-use Rattle.std.proofs.Common.{◌≡◌, ℕ, Bool, true, false, List, [], ◌∷◌, ◌++◌, map, flat_map, length, refl, sym, ap, ◌∙◌, arith}
+use Rattle.std.proofs.Common.{◌≡◌, ℕ, Bool, true, false, List, [], ◌∷◌, ◌++◌, map, flat_map, length, refl, sym, ◌∙◌, arith}
 use Rattle.std.specs.Prelude.{◌&&◌, ◌==◌, not, nat_lt, if◌then◌else◌}
 use Rattle.std.specs.List.{list_any, list_all}
 use Rattle.std.specs.Char.{is_ascii, is_ascii_alphabetic}
 use Rattle.std.specs.Str.{bytes_eq}
 use Rattle.std.proofs.lemmas.Bool.Decides.{nat_tests}
-use Rattle.std.proofs.lemmas.List.Folds.{list_any-append, list_all-append}
+use Rattle.std.proofs.lemmas.List.Folds.{list_all-append, list_all-map}
 use Rattle.ccr_text.specs.Words.{may_be_in_name, is_name_of}
 use Rattle.ccr_wiring.specs.declared.parts.Parts.{Parts}
 use Rattle.ccr_wiring.specs.declared.parts.ArbiterPart.{ArbiterPart}
@@ -26,6 +26,7 @@ use Rattle.ccr_json.specs.Names.{is_plain_arbiter, HasPlainNames}
 use Rattle.std.proofs.lemmas.Bool.{and_parts as both}
 use Rattle.ccr_base.proofs.Booleans.{not_refuted}
 use Rattle.ccr_base.proofs.Texts.{same_word}
+use Rattle.ccr_base.proofs.Lists.{any_parts}
 
 letters_plain : (others : List ℕ) → list_all may_be_in_name others ≡ true → is_plain others ≡ true
 letters_plain [] all = refl
@@ -48,16 +49,12 @@ all_plain (name ∷ given) formed =
     let parts = neither (not (is_name_of name)) (names.has_malformed given) formed in
     rw (plain_name name (not_refuted (is_name_of name) parts.0), all_plain given parts.1) refl
 
-mapped : {X : Type 0} (f : X → List ℕ) (xs : List X) → list_all is_plain (map f xs) ≡ list_all (λ x. is_plain (f x)) xs
-mapped f [] = refl
-mapped f (x ∷ xs) = ap (λ b. is_plain (f x) && b) (mapped f xs)
-
 -- names of parts
 of_parts : {X : Type 0} (f : X → List ℕ) (xs : List X) → names.has_malformed (map f xs) ≡ false → list_all (λ x. is_plain (f x)) xs ≡ true
-of_parts f xs formed = sym (mapped f xs) ∙ all_plain (map f xs) formed
+of_parts f xs formed = sym (list_all-map is_plain f xs) ∙ all_plain (map f xs) formed
 
 halves : (xs ys : List (List ℕ)) → names.has_malformed (xs ++ ys) ≡ false → (names.has_malformed xs ≡ false) × (names.has_malformed ys ≡ false)
-halves xs ys formed = neither (names.has_malformed xs) (names.has_malformed ys) (sym (list_any-append (λ name. not (is_name_of name)) xs ys) ∙ formed)
+halves xs ys formed = any_parts (λ name. not (is_name_of name)) xs ys formed
 
 one_plain : (name : List ℕ) (branches : List BranchPart) → is_plain name ≡ true → is_one_named name branches ≡ true → list_all (λ (branch : BranchPart). is_plain branch.name) branches ≡ true
 one_plain name [] plain one = absurd cc
@@ -88,7 +85,7 @@ branches_plain (arbiter ∷ arbiters) all =
     let parts = both (is_plain_arbiter arbiter) (list_all is_plain_arbiter arbiters) all in
     let first = (both (is_plain arbiter.name) _ parts.0).1 in
     list_all-append is_plain (branch_names_of arbiter) (flat_map branch_names_of arbiters)
-    ∙ rw (mapped (λ (branch : BranchPart). branch.name) arbiter.branches, first, branches_plain arbiters parts.1) refl
+    ∙ rw (list_all-map is_plain (λ (branch : BranchPart). branch.name) arbiter.branches, first, branches_plain arbiters parts.1) refl
 
 pub plain_names : (parts : Parts) → IsValid parts → HasPlainNames parts
 plain_names parts valid =

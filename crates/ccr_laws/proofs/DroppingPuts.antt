@@ -1,5 +1,6 @@
 -- A dropped task never starts, and is dropped once, by a put that stands in the history.
-use Rattle.std.proofs.Common.{◌≡◌, ◌+◌, ◌≤◌, Bool, true, false, ◌||◌, List, [], ◌∷◌, ◌++◌, length, filter, Some, None, refl, sym, ap, arith}
+use Rattle.std.proofs.Common.{◌≡◌, ◌+◌, ◌≤◌, Bool, true, false, ◌||◌, List, [], ◌∷◌, ◌++◌, length, filter, Some, None, refl, sym, ap, arith, ◌∙◌, length-append}
+use Rattle.std.proofs.lemmas.List.Elements.{filter-append}
 use Rattle.ccr_base.specs.declared.names.TaskId.{TaskId}
 use Rattle.ccr_model.specs.declared.history.Event.{Event}
 use Rattle.ccr_model.specs.declared.history.Event.TheVariants.{Post, Fire, Admit, Put, Start, End}
@@ -11,6 +12,7 @@ use Rattle.ccr_model.proofs.OneMoreEvent.{dropped-push}
 use Rattle.ccr_model.proofs.LegalParts.{along_legal}
 use Rattle.ccr_base.proofs.SameNames.{same_task-is}
 use Rattle.ccr_base.proofs.Booleans.{refuted, no_both}
+use Rattle.ccr_base.proofs.Filters.{none_pass}
 use Rattle.ccr_laws.specs.Drops.{IsDroppedByPut, times_dropped}
 use Rattle.ccr_model.proofs.WhoWasPut.{ArePlaced-legal, new_drop}
 
@@ -20,12 +22,10 @@ dropped_unstarted w h legal t is = refuted (has_task (started h) t) (λ runs. no
 
 -- over plain lists: counts
 counted-append : (t : TaskId) (ts us : List TaskId) → length (filter (same_task t) (ts ++ us)) ≡ length (filter (same_task t) ts) + length (filter (same_task t) us)
-counted-append t [] us = grind arith
-counted-append t (x ∷ ts) us = grind (arith, counted-append t ts us)
+counted-append t ts us = ap length (filter-append (same_task t) ts us) ∙ length-append (filter (same_task t) ts) (filter (same_task t) us)
 
 none_counted : (t : TaskId) (ts : List TaskId) → has_task ts t ≡ false → length (filter (same_task t) ts) ≡ 0
-none_counted t [] out = grind arith
-none_counted t (x ∷ ts) out = grind (arith, none_counted t ts)
+none_counted t ts out = ap length (none_pass (same_task t) ts out)
 
 one_dropped : (e : Event) (t : TaskId) → length (filter (same_task t) (dropped_by e)) ≤ 1
 one_dropped (Put u None) t = omega arith

@@ -2,6 +2,7 @@
 use Rattle.std.proofs.Common.{◌≡◌, ℕ, ◌+◌, ◌≤◌, true, false, not, ◌&&◌, List, [], ◌∷◌, ◌++◌, length, map, Option, Some, refl, arith, append-nil}
 use Rattle.std.specs.Prelude.{◌==◌}
 use Rattle.std.proofs.lemmas.Grind.{common_steps}
+use Rattle.std.proofs.lemmas.List.{length-map}
 use Rattle.ccr_base.specs.declared.names.TaskId.{TaskId}
 use Rattle.ccr_base.specs.declared.names.MsgId.{MsgId}
 use Rattle.ccr_base.specs.declared.messages.Msg.{Msg}
@@ -27,10 +28,10 @@ use Rattle.ccr_base.proofs.Options.{some_of, some_map, head_rest}
 use Rattle.ccr_model.proofs.TasksLeft.{of_without, out_left}
 use Rattle.ccr_base.proofs.Booleans.{both}
 use Rattle.ccr_model.proofs.FiredTasks.{fired_has, placement_fired}
+use Rattle.ccr_model.proofs.PostCounts.{few_posts}
 use Rattle.ccr_laws.specs.Potential.{TakesSome, event_bound}
 use Rattle.ccr_laws.proofs.EachGoesOnOnce.{Fits, Fits-came, Fits-gone, head_member}
 use Rattle.ccr_laws.proofs.MessagesAreTakenOnce.{untaken_post, untaken_fire}
-use Rattle.ccr_laws.proofs.Lines.{few_posts}
 
 -- what is known of the numbers of events of each kind
 pub record AreFew (h : List Event) : Type 0 where
@@ -168,8 +169,7 @@ all_kinds (Start t a ∷ h) = omega (arith, all_kinds h)
 all_kinds (End t how ∷ h) = omega (arith, all_kinds h)
 
 pub fired-length : (fs : List Firing) → length (map (λ (f : Firing). f.task) fs) ≡ length fs
-fired-length [] = refl
-fired-length (f ∷ fs) = grind (arith, fired-length fs)
+fired-length fs = length-map fs (λ (f : Firing). f.task)
 
 -- a legal history has at most six events for each message that may be posted
 pub few_events : (w : Parts) → TakesSome w → (h : List Event) → IsLegal w h → length h ≤ event_bound w

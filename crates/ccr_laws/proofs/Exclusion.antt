@@ -18,8 +18,7 @@ use Rattle.ccr_model.specs.Tasks.{is_interleave, is_concurrent, is_of_domain, is
 use Rattle.ccr_model.specs.Rules.{is_concurrent_task}
 use Rattle.ccr_model.specs.Legal.{IsLegal}
 use Rattle.ccr_base.proofs.Options.{some_of}
-use Rattle.ccr_base.proofs.SameNames.{same_task-self}
-use Rattle.ccr_model.proofs.TasksLeft.{has_task-append}
+use Rattle.ccr_base.proofs.SameNames.{same_task-self, has_task-append}
 use Rattle.ccr_base.proofs.Booleans.{not_true, both, or_left, or_right}
 use Rattle.ccr_model.proofs.ExclusiveRootsAreAlone.{is_alone-legal}
 use Rattle.ccr_model.specs.AtWork.{is_at_work}

@@ -19,9 +19,8 @@ use Rattle.ccr_base.proofs.Filters.{length-kept}
 use Rattle.ccr_model.proofs.AllowedFirings.{FiresSo-allowed}
 use Rattle.ccr_model.proofs.PostNames.{along}
 use Rattle.ccr_model.proofs.OneMoreEvent.{cut-push, fired-fire, firings-push}
-use Rattle.ccr_base.proofs.SameNames.{same_task-self}
+use Rattle.ccr_base.proofs.SameNames.{same_task-self, has_task-append}
 use Rattle.ccr_model.proofs.TaskLists.{without-append}
-use Rattle.ccr_model.proofs.TasksLeft.{has_task-append}
 
 -- the tasks of firings
 abbrev pub tasks_of : List Firing → List TaskId

@@ -2,21 +2,18 @@
 use Rattle.std.proofs.Common.{◌≡◌, ℕ, suc, ◌<◌, ◌≤◌, Bool, true, false, not, List, [], ◌∷◌, ◌++◌, length, Option, Some, None, option_to_list, refl, sym, ap, ◌∙◌, arith, subst, append-nil, length-append}
 use Rattle.std.specs.Prelude.{◌==◌, if◌then◌else◌, nat_le, option_and_then}
 use Rattle.std.specs.List.{slice_get}
-use Rattle.std.specs.Option.{option_map_or}
 use Rattle.std.proofs.lemmas.Bool.Decides.{nat_tests}
 use Rattle.ccr_base.specs.declared.names.TaskId.{TaskId}
-use Rattle.ccr_base.specs.declared.policies.Policy.TheVariants.{Unbounded, Discard}
+use Rattle.ccr_base.specs.declared.policies.Policy.TheVariants.{Discard}
 use Rattle.ccr_wiring.specs.declared.parts.Parts.{Parts}
-use Rattle.ccr_wiring.specs.declared.parts.QueuePart.{QueuePart}
 use Rattle.ccr_wiring.specs.Wirings.{Placement, policy_of}
-use Rattle.ccr_wiring.specs.Limits.{policy_is_outside, queue_is_outside}
+use Rattle.ccr_wiring.specs.Limits.{policy_is_outside}
 use Rattle.ccr_wiring.specs.Valid.{IsValid}
-use Rattle.ccr_wiring.proofs.Lists.{none_at}
-use Rattle.ccr_wiring.proofs.Validity.{no_codes, within}
+use Rattle.ccr_wiring.proofs.Validity.{policy_inside}
 use Rattle.ccr_model.specs.declared.history.Event.{Event}
 use Rattle.ccr_model.specs.declared.history.Event.TheVariants.{Post, Fire, Admit, Put, Start, End}
 use Rattle.ccr_base.specs.Names.{has_task, without}
-use Rattle.ccr_model.specs.Firings.{put, dropped, started}
+use Rattle.ccr_model.specs.Firings.{put}
 use Rattle.ccr_model.specs.TaskData.{placement_of}
 use Rattle.ccr_model.specs.Tasks.{is_for_queue, queued}
 use Rattle.ccr_model.specs.Rules.{drop_at, drop_by}
@@ -30,32 +27,14 @@ use Rattle.ccr_base.proofs.Filters.{length-kept}
 use Rattle.ccr_laws.specs.Occurring.{Occurs}
 use Rattle.ccr_laws.specs.Drops.{DropsOldest}
 use Rattle.ccr_laws.proofs.LegalEventsWereAllowed.{allowed_at, legal_past}
-use Rattle.ccr_model.proofs.TaskLists.{not_more, not_within}
 use Rattle.ccr_model.proofs.AllowedDrops.{put_allowed, drop_allowed}
-use Rattle.ccr_model.proofs.WhoWasPut.{ArePlaced-legal, PutFacts-allowed, new_drop}
+use Rattle.ccr_model.proofs.WhoWasPut.{PutFacts-allowed, dropped_was_put}
 use Rattle.ccr_model.proofs.AllowedFirings.{FiresSo-allowed}
-use Rattle.ccr_model.proofs.Queued.{queued-other, new_unput}
+use Rattle.ccr_model.proofs.Queued.{queued-other, new_unput, put_fresh}
 
 -- a policy's number is at least 1
 some_most : (w : Parts) → IsValid w → (q n : ℕ) → policy_of w q ≡ Discard n → 1 ≤ n
-some_most w valid q n is = of_option (slice_get w.queues q) refl is
-  where
-    of_option : (o : Option QueuePart) → slice_get w.queues q ≡ o → option_map_or (λ (part : QueuePart). part.policy) o Unbounded ≡ Discard n → 1 ≤ n
-    of_option None at policy = absurd (cc)
-    of_option (Some part) at policy =
-        let inside : queue_is_outside part ≡ false = none_at queue_is_outside w.queues q part (within w (no_codes w valid).limits).queues at in
-        let known : policy_is_outside (Discard n) ≡ false = subst (λ p. policy_is_outside p ≡ false) policy inside in
-        grind (arith, nat_tests, known)
-
--- a task that may be put neither started nor was dropped, and isn't the one that is dropped
-put_fresh : (w : Parts) (h : List Event) (t : TaskId) (d : Option TaskId) → IsLegal w h → IsAllowed w h (Put t d) → has_task (started h ++ (dropped h ++ option_to_list d)) t ≡ false
-put_fresh w h t d legal allowed =
-    let new = (PutFacts-allowed w h t d allowed).new_put in
-    let lists = (ArePlaced-legal w h legal).lists in
-    let unstarted = not_within (started h) (put h) t (lists.put_started t) new in
-    let undropped = not_within (dropped h) (put h) t (lists.put_dropped t) new in
-    let other = not_within (option_to_list d) (put h) t (λ is. (new_drop w h (Put t d) t allowed is).1.put_so) new in
-    not_more (started h) (dropped h ++ option_to_list d) t unstarted (not_more (dropped h) (option_to_list d) t undropped other)
+some_most w valid q n is = let inside : policy_is_outside (Discard n) ≡ false = subst (λ p. policy_is_outside p ≡ false) is (policy_inside w valid q) in grind (arith, nat_tests, inside)
 
 -- over plain lists: one comes, and where there are as many as there may be, the oldest goes
 one_comes : (n : ℕ) (ts : List TaskId) (t : TaskId) (d : Option TaskId) → 1 ≤ n → length ts ≤ n → d ≡ (if nat_le n (length ts) then slice_get ts 0 else None) → length (without ts (option_to_list d) ++ t ∷ []) ≤ n
@@ -83,7 +62,7 @@ drop_on w h q n t policy is =
     ap (λ o. option_and_then (λ (s : Placement). drop_by (policy_of w s.branch.queue) (queued w h s.branch.queue)) o) found.1 ∙ ap (λ k. drop_by (policy_of w k) (queued w h k)) same ∙ ap (λ p. drop_by p (queued w h q)) policy
 
 put_within : (w : Parts) (q n : ℕ) → 1 ≤ n → policy_of w q ≡ Discard n → (h : List Event) (t : TaskId) (d : Option TaskId) → IsLegal w h → IsAllowed w h (Put t d) → length (queued w h q) ≤ n → length (queued w (h ++ Put t d ∷ []) q) ≤ n
-put_within w q n some policy h t d legal allowed few = subst (λ ts. length ts ≤ n) (sym (queued-put w h q t d (put_fresh w h t d legal allowed))) (of_test (is_for_queue w h q t) refl)
+put_within w q n some policy h t d legal allowed few = subst (λ ts. length ts ≤ n) (sym (queued-put w h q t d (put_fresh w h t d legal (PutFacts-allowed w h t d allowed).new_put (dropped_was_put w h t d allowed)))) (of_test (is_for_queue w h q t) refl)
   where
     of_test : (b : Bool) → is_for_queue w h q t ≡ b → length (without (queued w h q) (option_to_list d) ++ (if b then t ∷ [] else [])) ≤ n
     of_test true here = one_comes n (queued w h q) t d some few ((put_allowed w h t d allowed).1 ∙ drop_on w h q n t policy here)

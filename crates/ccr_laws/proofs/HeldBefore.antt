@@ -22,6 +22,7 @@ use Rattle.ccr_model.specs.Legal.{IsLegal}
 use Rattle.ccr_base.proofs.SameNames.{same_message-is}
 use Rattle.ccr_base.proofs.Booleans.{either, or_assoc, same_number}
 use Rattle.ccr_model.proofs.MessageNames.{has_message-append}
+use Rattle.ccr_model.proofs.Members.{Contains-among, Among-at}
 use Rattle.ccr_laws.specs.Occurring.{Occurs}
 use Rattle.ccr_laws.specs.WholePattern.{FillsSlot, FillsPattern, TakesWhole}
 use Rattle.ccr_laws.specs.OneFate.{IsHeld}
@@ -75,8 +76,7 @@ of_pattern past (Gather total first second) names fills name is =
     ]
 
 Contains-get : (ms : List Msg) (m : Msg) → slice_get ms 0 ≡ Some m → Contains ms m
-Contains-get [] m is = absurd (cc)
-Contains-get (x ∷ ms) m is = let same : x ≡ m = cc in (0, omega arith, same)
+Contains-get ms m is = Contains-among ms m (Among-at ms 0 m is)
 
 of_whole : (w : Parts) (past : List Event) (s : Spot) (names : List MsgId) → TakesWhole w past s names → (name : MsgId) → has_message names name ≡ true → IsHeld past name
 of_whole w past (Branch b) names takes name is = of_pattern past takes.its.branch.pattern names takes.filled name is

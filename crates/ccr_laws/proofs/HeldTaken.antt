@@ -1,5 +1,5 @@
 -- Each message of a legal history is held or taken, and none twice.
-use Rattle.std.proofs.Common.{◌≡◌, ◌+◌, ◌≤◌, Bool, true, false, ◌||◌, List, [], ◌∷◌, length, refl, subst, arith}
+use Rattle.std.proofs.Common.{◌≡◌, ◌+◌, ◌≤◌, Bool, true, false, ◌||◌, List, [], ◌∷◌, length, refl, subst, arith, ap}
 use Rattle.std.specs.Prelude.{if◌then◌else◌}
 use Rattle.std.proofs.lemmas.Grind.{common_steps}
 use Rattle.ccr_base.specs.declared.names.MsgId.{MsgId}
@@ -13,13 +13,10 @@ use Rattle.ccr_model.specs.Posts.{posts, taken}
 use Rattle.ccr_model.specs.Legal.{IsLegal}
 use Rattle.ccr_model.proofs.PostNames.{times, posted_once}
 use Rattle.ccr_base.proofs.SameNames.{same_message-is, same_message-self}
+use Rattle.ccr_base.proofs.Booleans.{refuted}
 use Rattle.ccr_model.proofs.TakenOnce.{taken_once, times_named, untaken}
-use Rattle.ccr_model.proofs.MessageNames.{left_by}
+use Rattle.ccr_model.proofs.MessageNames.{left_by, none_left, named_some}
 use Rattle.ccr_model.proofs.PostedNames.{are_posted}
-
-left_whole : (ms : List Msg) → length (left_by [] ms) ≡ length ms
-left_whole [] = refl
-left_whole (m ∷ ms) = grind (arith, left_whole ms)
 
 named_cons : (name n : MsgId) (names : List MsgId) → times_named name (n ∷ names) ≡ (if same_message name n then 1 else 0) + times_named name names
 named_cons name n names = grind (arith, common_steps)
@@ -29,11 +26,7 @@ times_cons name x ms = grind (arith, common_steps)
 
 -- a name that stands once stands in no rest
 not_in_rest : (n : MsgId) (names : List MsgId) → times_named n (n ∷ names) ≤ 1 → has_message names n ≡ false
-not_in_rest n names once = by names (grind (arith, named_cons n n names, same_message-self n, once))
-  where
-    by : (ns : List MsgId) → times_named n ns ≡ 0 → has_message ns n ≡ false
-    by [] none = refl
-    by (x ∷ ns) none = grind (arith, named_cons n x ns, none, by ns)
+not_in_rest n names once = refuted (has_message names n) (λ is. absurd (grind (arith, named_cons n n names, same_message-self n, once, named_some n names is)))
 
 -- one more name drops what bears it
 one_drops : (n : MsgId) (names : List MsgId) (ms : List Msg) → has_message names n ≡ false → length (left_by (n ∷ names) ms) + times n ms ≡ length (left_by names ms)
@@ -51,7 +44,7 @@ one_drops n names (x ∷ ms) new = by (same_message x.id n) (has_message names x
 
 -- distinct names of messages drop one each
 names_drop : (names : List MsgId) (ms : List Msg) → ((name : MsgId) → times_named name names ≤ 1) → ((name : MsgId) → has_message names name ≡ true → times name ms ≡ 1) → length (left_by names ms) + length names ≡ length ms
-names_drop [] ms once some = omega (arith, left_whole ms)
+names_drop [] ms once some = omega (arith, ap length (none_left ms))
 names_drop (n ∷ names) ms once some =
     let new = not_in_rest n names (once n) in
     let rest = names_drop names ms (λ name. (let a = once name in let b = named_cons name n names in omega (arith, a, b))) (λ name is. some name (later name is)) in

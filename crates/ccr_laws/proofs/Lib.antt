@@ -15,6 +15,5 @@ pub mod HeldTaken
 pub mod FewCut
 pub mod EachGoesOnOnce
 pub mod MessagesAreTakenOnce
-pub mod Lines
 pub mod Ending
 pub mod Valid

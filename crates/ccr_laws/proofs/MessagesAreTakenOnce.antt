@@ -24,8 +24,8 @@ use Rattle.ccr_model.proofs.Allowing.{filter_head}
 use Rattle.ccr_model.proofs.Members.{Among, Among-left, Among-right}
 use Rattle.ccr_model.proofs.TakenOnce.{joined_some, untaken}
 use Rattle.ccr_base.proofs.Booleans.{both, either}
+use Rattle.ccr_base.proofs.Filters.{length-filter_stronger}
 use Rattle.ccr_laws.specs.Potential.{takes_some, TakesSome}
-use Rattle.ccr_laws.proofs.EachGoesOnOnce.{length-filter_stronger}
 
 -- one of the names is that of a message of one of the ports
 pub record NamesOne (at : ℕ → List Msg) (names : List MsgId) : Type 0 where

@@ -2,6 +2,7 @@
 use Rattle.std.proofs.Common.{◌≡◌, inl, inr, Bool, true, false, not, List, [], ◌∷◌, ◌++◌, filter, Option, Some, None, refl, sym, ap, ◌∙◌, subst}
 use Rattle.std.specs.Prelude.{◌==◌, if◌then◌else◌, find}
 use Rattle.std.specs.Option.{option_map, option_map_or}
+use Rattle.std.proofs.lemmas.List.Folds.{find-append}
 use Rattle.ccr_base.specs.declared.names.MsgId.{MsgId}
 use Rattle.ccr_base.specs.declared.names.TaskId.{TaskId}
 use Rattle.ccr_base.specs.declared.messages.Msg.{Msg}
@@ -20,12 +21,13 @@ use Rattle.ccr_model.proofs.Stable.{firings-append}
 use Rattle.ccr_model.proofs.Allowing.{OneName-legal}
 use Rattle.ccr_model.proofs.Members.{Among, Among-right, Contains-among, found_among}
 use Rattle.ccr_base.proofs.SameNames.{same_message-self}
-use Rattle.ccr_base.proofs.Booleans.{neither, eq-self}
+use Rattle.ccr_base.proofs.Booleans.{eq-self}
+use Rattle.ccr_base.proofs.Lists.{none_of_both, any_parts}
 use Rattle.ccr_laws.specs.Occurring.{Occurs}
 use Rattle.ccr_laws.specs.OneFate.{IsHeld, IsTakenBy, HasFate, HasOneFate}
 use Rattle.ccr_model.proofs.FiringPlacements.{firing_with_placement}
-use Rattle.ccr_model.proofs.MessageNames.{has_message-append}
 use Rattle.ccr_model.proofs.OneMoreEvent.{posts-append}
+use Rattle.ccr_model.proofs.QuietAllowsNone.{find_among}
 use Rattle.ccr_laws.proofs.HeldBefore.{untaken_of_held, untaken_before}
 use Rattle.ccr_laws.proofs.States.{is_in, only_in}
 
@@ -33,20 +35,13 @@ use Rattle.ccr_laws.proofs.States.{is_in, only_in}
 abbrev names_it : MsgId → Firing → Bool
 names_it name f = has_message f.messages name
 
--- a message that no firing names isn't taken
-name_out_of_both : (names others : List MsgId) (name : MsgId) → has_message names name ≡ false → has_message others name ≡ false → has_message (names ++ others) name ≡ false
-name_out_of_both names others name out away = rw (has_message-append names others name, out) away
-
-name_out_of_front : (names others : List MsgId) (name : MsgId) → has_message (names ++ others) name ≡ false → (has_message names name ≡ false) × (has_message others name ≡ false)
-name_out_of_front names others name out = neither (has_message names name) (has_message others name) (sym (has_message-append names others name) ∙ out)
-
 untaken_by_none : (h : List Event) (name : MsgId) → find (names_it name) (firings h) ≡ None → has_message (taken h) name ≡ false
 untaken_by_none [] name none = refl
 untaken_by_none (Fire t s ms cs ∷ h) name none = of_test (has_message ms name) refl none (untaken_by_none h name)
   where
     of_test : (b : Bool) → has_message ms name ≡ b → (if b then Some (let f : Firing = record { task = t; spot = s; messages = ms; cuts = cs } in f) else find (names_it name) (firings h)) ≡ None → (find (names_it name) (firings h) ≡ None → has_message (taken h) name ≡ false) → has_message (ms ++ taken h) name ≡ false
     of_test true e at rest = absurd (cc)
-    of_test false e at rest = name_out_of_both ms (taken h) name e (rest at)
+    of_test false e at rest = none_of_both (same_message name) ms (taken h) e (rest at)
 untaken_by_none (Post m ∷ h) name none = untaken_by_none h name none
 untaken_by_none (Admit t ∷ h) name none = untaken_by_none h name none
 untaken_by_none (Put t d ∷ h) name none = untaken_by_none h name none
@@ -55,7 +50,7 @@ untaken_by_none (End t how ∷ h) name none = untaken_by_none h name none
 
 none_by_untaken : (h : List Event) (name : MsgId) → has_message (taken h) name ≡ false → find (names_it name) (firings h) ≡ None
 none_by_untaken [] name out = refl
-none_by_untaken (Fire t s ms cs ∷ h) name out = let parts = name_out_of_front ms (taken h) name out in rw parts.0 (none_by_untaken h name parts.1)
+none_by_untaken (Fire t s ms cs ∷ h) name out = let parts = any_parts (same_message name) ms (taken h) out in rw parts.0 (none_by_untaken h name parts.1)
 none_by_untaken (Post m ∷ h) name out = none_by_untaken h name out
 none_by_untaken (Admit t ∷ h) name out = none_by_untaken h name out
 none_by_untaken (Put t d ∷ h) name out = none_by_untaken h name out
@@ -83,12 +78,7 @@ taken_by_found (End t how ∷ h) name f is = taken_later (End t how) h name f.ta
 
 -- and it is the only one
 find_behind : (p : Firing → Bool) (fs gs : List Firing) (f : Firing) → find p fs ≡ None → p f ≡ true → find p (fs ++ f ∷ gs) ≡ Some f
-find_behind p [] gs f none passes = rw passes refl
-find_behind p (g ∷ fs) gs f none passes = of_test (p g) none (find_behind p fs gs f)
-  where
-    of_test : (b : Bool) → (if b then Some g else find p fs) ≡ None → (find p fs ≡ None → p f ≡ true → find p (fs ++ f ∷ gs) ≡ Some f) → (if b then Some g else find p (fs ++ f ∷ gs)) ≡ Some f
-    of_test true at rest = absurd (cc)
-    of_test false at rest = rest at passes
+find_behind p fs gs f none passes = find-append p fs (f ∷ gs) ∙ rw (none, passes) refl
 
 found_by_taken : (w : Parts) → IsValid w → (h : List Event) → IsLegal w h → (name : MsgId) (t : TaskId) → IsTakenBy h name t → (f : Firing) × (find (names_it name) (firings h) ≡ Some f) × (f.task ≡ t)
 found_by_taken w valid h legal name t is =
@@ -101,13 +91,11 @@ among_posts : (h past : List Event) (m : Msg) → Occurs h past (Post m) → Amo
 among_posts h past m stands = subst (λ g. Among m (posts g)) (sym stands.whole) (subst (Among m) (sym (posts-append past (Post m ∷ stands.more))) (Among-right m (posts past) (m ∷ posts stands.more) (inl refl)))
 
 found_name : (ms : List Msg) (m : Msg) → Among m ms → (x : Msg) × (find (λ (y : Msg). same_message y.id m.id) ms ≡ Some x)
-found_name [] m among = absurd among
-found_name (y ∷ ms) m (inl same) = (y, let e : same_message y.id m.id ≡ true = ap (λ (x : Msg). same_message x.id m.id) (sym same) ∙ same_message-self m.id in rw e refl)
-found_name (y ∷ ms) m (inr more) = of_test (same_message y.id m.id) (found_name ms m more)
+found_name ms m among = by (find (λ (y : Msg). same_message y.id m.id) ms) refl
   where
-    of_test : (b : Bool) → ((x : Msg) × (find (λ (z : Msg). same_message z.id m.id) ms ≡ Some x)) → (x : Msg) × ((if b then Some y else find (λ (z : Msg). same_message z.id m.id) ms) ≡ Some x)
-    of_test true rest = (y, refl)
-    of_test false rest = rest
+    by : (o : Option Msg) → find (λ (y : Msg). same_message y.id m.id) ms ≡ o → (x : Msg) × (find (λ (y : Msg). same_message y.id m.id) ms ≡ Some x)
+    by (Some x) is = (x, is)
+    by None is = absurd (find_among (λ (y : Msg). same_message y.id m.id) ms m among (same_message-self m.id) is)
 
 -- a posted message that isn't taken is held
 Among-filter : (p : Msg → Bool) (ms : List Msg) (m : Msg) → Among m ms → p m ≡ true → Among m (filter p ms)

@@ -1,6 +1,7 @@
 -- Tasks of one queue start in the order of their puts.
 use Rattle.std.proofs.Common.{◌≡◌, ℕ, Bool, true, false, not, ◌&&◌, ◌||◌, List, [], ◌∷◌, ◌++◌, filter, Option, option_to_list, ◌⊎◌, inl, inr, refl, sym, ap, ◌∙◌, subst, append_assoc, append-nil}
 use Rattle.std.specs.Prelude.{◌==◌, if◌then◌else◌}
+use Rattle.std.proofs.lemmas.List.Elements.{filter-append}
 use Rattle.ccr_base.specs.declared.names.TaskId.{TaskId}
 use Rattle.ccr_wiring.specs.declared.parts.Parts.{Parts}
 use Rattle.ccr_model.specs.declared.history.Event.{Event}
@@ -16,9 +17,9 @@ use Rattle.ccr_base.proofs.SameNames.{same_task-is}
 use Rattle.ccr_model.proofs.TasksLeft.{has_task-filter, has_task-without, of_filter, of_without, filter_on, without_both, lists_start, distinct-filter}
 use Rattle.ccr_base.proofs.Booleans.{both, or_left, or_right, and_false, refuted, no_both, same_number}
 use Rattle.ccr_base.proofs.Filters.{filter_swap}
-use Rattle.ccr_model.proofs.FiredTasks.{IsFired, placement_stays}
+use Rattle.ccr_model.proofs.FiredTasks.{for_queue_stays}
 use Rattle.ccr_laws.specs.Queues.{started_from, stands_before}
-use Rattle.ccr_model.proofs.TaskLists.{filter_append, without-append, without_none, without_other, without_first, of_more, not_more, not_within}
+use Rattle.ccr_model.proofs.TaskLists.{without-append, without_none, without_other, without_first, of_more, not_more, not_within}
 use Rattle.ccr_model.proofs.WhoWasPut.{AreApart, ArePlaced, ArePlaced_kept, ArePlaced-none, ArePlaced-legal, StartFacts, StartFacts-allowed, PutFacts-allowed, QueuedFacts-queued, put_fired, new_drop}
 
 -- who of the tested ones started, then who is queued: who was put and not dropped
@@ -27,7 +28,7 @@ IsOrder p ps ss ds = filter p ss ++ filter p (without ps (ss ++ ds)) ≡ filter 
 
 -- one more started: the oldest of the queued ones, where it is one of them
 IsOrder-start : (p : TaskId → Bool) (ps ss ds : List TaskId) (t : TaskId) → AreApart ps ss ds → (p t ≡ true → (rest : List TaskId) × (filter p (without ps (ss ++ ds)) ≡ t ∷ rest)) → IsOrder p ps ss ds → IsOrder p ps (ss ++ t ∷ []) ds
-IsOrder-start p ps ss ds t known oldest is = rw (lists_start p ps ss ds t, filter_append p ss (t ∷ [])) (of_test (p t) refl oldest)
+IsOrder-start p ps ss ds t known oldest is = rw (lists_start p ps ss ds t, filter-append p ss (t ∷ [])) (of_test (p t) refl oldest)
   where
     waits : List TaskId
     waits = filter p (without ps (ss ++ ds))
@@ -51,9 +52,9 @@ IsOrder-put p ps ss ds more t known new drops is =
     let gone : has_task (ds ++ more) t ≡ false = not_more ds more t out_dropped out_more in
     let all_gone : has_task (ss ++ (ds ++ more)) t ≡ false = not_more ss (ds ++ more) t out_started gone in
     let left : filter p (without (ps ++ t ∷ []) (ss ++ (ds ++ more))) ≡ without (filter p (without ps (ss ++ ds))) more ++ filter p (t ∷ []) =
-    rw (without-append ps (t ∷ []) (ss ++ (ds ++ more)), all_gone, ← (append_assoc ss ds more), without_both ps (ss ++ ds) more, filter_append, filter_swap p (λ u. not (has_task more u)) (without ps (ss ++ ds))) refl in
+    rw (without-append ps (t ∷ []) (ss ++ (ds ++ more)), all_gone, ← (append_assoc ss ds more), without_both ps (ss ++ ds) more, filter-append, filter_swap p (λ u. not (has_task more u)) (without ps (ss ++ ds))) refl in
     let right : filter p (without (ps ++ t ∷ []) (ds ++ more)) ≡ without (filter p (without ps ds)) more ++ filter p (t ∷ []) =
-    rw (without-append ps (t ∷ []) (ds ++ more), gone, without_both ps ds more, filter_append, filter_swap p (λ u. not (has_task more u)) (without ps ds)) refl in
+    rw (without-append ps (t ∷ []) (ds ++ more), gone, without_both ps ds more, filter-append, filter_swap p (λ u. not (has_task more u)) (without ps ds)) refl in
     let stays : without (filter p ss) more ≡ filter p ss = without_none (filter p ss) more (λ u among. refuted (has_task more u) (λ gone. no_both (of_filter p ss u among).0 (drops u gone).1)) in
     let both_sides : without (filter p (without ps ds)) more ≡ filter p ss ++ without (filter p (without ps (ss ++ ds))) more =
     sym (ap (λ ts. without ts more) is) ∙ (without-append (filter p ss) (filter p (without ps (ss ++ ds))) more ∙ ap (λ ts. ts ++ without (filter p (without ps (ss ++ ds))) more) stays) in
@@ -63,9 +64,6 @@ IsOrder-put p ps ss ds more t known new drops is =
 IsOrder-test : (p q : TaskId → Bool) (ps ss ds : List TaskId) → AreApart ps ss ds → ((u : TaskId) → has_task ps u ≡ true → q u ≡ p u) → IsOrder p ps ss ds → IsOrder q ps ss ds
 IsOrder-test p q ps ss ds known same is =
     rw (filter_on q p ss (λ u among. same u (known.put_started u among)), filter_on q p (without ps (ss ++ ds)) (λ u among. same u (of_without ps (ss ++ ds) u among).0), filter_on q p (without ps ds) (λ u among. same u (of_without ps ds u among).0)) is
-
-for_queue_stays : (w : Parts) (h es : List Event) (q : ℕ) (t : TaskId) → IsFired h t → is_for_queue w (h ++ es) q t ≡ is_for_queue w h q t
-for_queue_stays w h es q t fired = rw (placement_stays w h es t fired) refl
 
 -- the order of one queue
 abbrev IsOrderOf : Parts → ℕ → List Event → Type 0

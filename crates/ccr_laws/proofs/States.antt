@@ -21,11 +21,11 @@ use Rattle.ccr_model.specs.Fates.{end_of, state_of_started, state_of}
 use Rattle.ccr_model.specs.Legal.{IsLegal}
 use Rattle.ccr_model.proofs.Allowing.{OneName-legal}
 use Rattle.ccr_base.proofs.SameNames.{same_task-is, same_task-self, same_task-sym}
-use Rattle.ccr_base.proofs.Booleans.{neither, refuted, no_both, eq-self}
+use Rattle.ccr_base.proofs.Booleans.{neither, or_left, refuted, no_both, eq-self}
 use Rattle.ccr_model.specs.Interleaves.{is_placement_in}
 use Rattle.ccr_laws.specs.OneFate.{Waits, IsQueued, HasEnded, IsIn}
 use Rattle.ccr_laws.proofs.LegalEventsWereAllowed.{allowed_at}
-use Rattle.ccr_model.proofs.TaskLists.{to_filter, to_without, among_left, not_more, not_within}
+use Rattle.ccr_model.proofs.TaskLists.{to_filter, to_without, among_left, among_right, not_more, not_within}
 use Rattle.ccr_model.proofs.WhoWasPut.{ArePlaced-legal, QueuedFacts-queued, PutFacts-may}
 use Rattle.ccr_model.proofs.AllowedFirings.{WaitingFacts-waiting, waits_whole, waits_outside, fired_by_has}
 use Rattle.ccr_model.proofs.Cutting.{CutFacts-legal, cut_not_put, waits_unput}
@@ -96,6 +96,15 @@ ended-first w h legal t how has =
 ended-started : (w : Parts) (h : List Event) → IsLegal w h → (t : TaskId) (how : EndHow) → HasEnded h t how → has_task (started h) t ≡ true
 ended-started w h legal t how has =
     subst (λ g. has_task (started g) t ≡ true) (sym has.stands.whole) (subst (λ ts. has_task ts t ≡ true) (sym (started-append has.past (End t how ∷ has.stands.more))) (among_left (started has.past) (started (End t how ∷ has.stands.more)) t (end_facts w h legal t how has).started_so))
+
+ended-append : (h es : List Event) → ended (h ++ es) ≡ ended h ++ ended es
+ended-append h es = grind (arith, common_steps)
+
+-- who has an end is among those that ended
+pub has_ended : (h : List Event) (t : TaskId) (how : EndHow) → HasEnded h t how → has_task (ended h) t ≡ true
+has_ended h t how has =
+    let here : has_task (ended (End t how ∷ has.stands.more)) t ≡ true = or_left (same_task t t) _ (same_task-self t) in
+    subst (λ g. has_task (ended g) t ≡ true) (sym has.stands.whole) (subst (λ ts. has_task ts t ≡ true) (sym (ended-append has.past (End t how ∷ has.stands.more))) (among_right (ended has.past) (ended (End t how ∷ has.stands.more)) t here))
 
 -- where the task of this firing stands, by the tests in their order
 queued_in : (w : Parts) (h : List Event) (t : TaskId) (f : Firing) (r : Placement) → firing_named h t ≡ Some f → placement w (branch_of f.spot) ≡ Some r → has_task (dropped h) t ≡ false → has_task (started h) t ≡ false → has_task (put h) t ≡ true → IsQueued w h t

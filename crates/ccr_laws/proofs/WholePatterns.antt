@@ -24,10 +24,10 @@ use Rattle.ccr_wiring.proofs.Soundness.{sound}
 use Rattle.ccr_model.specs.Posts.{held}
 use Rattle.ccr_model.specs.Selection.{names_of, selection_of_slots, are_first, are_split, is_selection_of, are_oldest, is_selection}
 use Rattle.ccr_model.specs.Legal.{IsLegal}
-use Rattle.ccr_model.proofs.FirstNames.{names_of-append, length-names_of, same_names}
+use Rattle.ccr_model.proofs.FirstNames.{length-names_of, same_names, first-names}
 use Rattle.ccr_model.proofs.TakenOnce.{FireFacts-allowed, joined_some}
 use Rattle.ccr_base.proofs.Options.{some_of}
-use Rattle.ccr_base.proofs.SameNames.{same_message-is}
+use Rattle.ccr_base.proofs.SameNames.{same_message-is, names_of-append}
 use Rattle.ccr_base.proofs.Booleans.{both}
 use Rattle.ccr_laws.specs.Occurring.{Occurs}
 use Rattle.ccr_laws.specs.WholePattern.{AreFirst, FillsSlot, FillsSlots, FillsGather, FillsPattern, IsOldest, TakesWhole}
@@ -73,14 +73,7 @@ fills_slots past slots names filled (Some xs) at is =
 
 -- names of a first part
 front_of : (ms : List Msg) (names : List MsgId) → are_first ms names ≡ true → (front : List Msg) × (names ≡ names_of front) × (AreFirst front ms)
-front_of ms [] is = ([], refl, refl)
-front_of [] (n ∷ names) is = absurd (cc)
-front_of (m ∷ ms) (n ∷ names) is =
-    let parts = both (same_message m.id n) (are_first ms names) is in
-    let one : n ≡ m.id = sym (same_message-is m.id n parts.0) in
-    let rest = front_of ms names parts.1 in
-    let others : names ≡ names_of rest.0 = rest.1 in
-    (m ∷ rest.0, cc, ap (λ xs. m ∷ xs) rest.2)
+front_of ms names is = let e = first-names ms names is in (take (length names) ms, e, ap (λ k. take k ms) (ap length e ∙ length-names_of (take (length names) ms)))
 
 -- names of a first part of one list and then of the other
 split_of : (a b : List Msg) (names : List MsgId) → are_split a b names ≡ true → (front : List Msg) × (back : List Msg) × (names ≡ names_of front ++ names_of back) × (AreFirst front a) × (AreFirst back b)

@@ -1,41 +1,36 @@
 -- Who is an admitted root that isn't over, and how many posts each task has made, after each event.
-use Rattle.std.proofs.Common.{◌≡◌, ◌+◌, Bool, true, false, not, ◌&&◌, ◌||◌, List, [], ◌∷◌, ◌++◌, length, map, filter, None, inl, inr, refl, sym, ap, ◌∙◌, append-nil, subst}
+use Rattle.std.proofs.Common.{◌≡◌, ◌+◌, Bool, true, false, not, ◌&&◌, ◌||◌, List, [], ◌∷◌, ◌++◌, length, filter, inl, inr, refl, sym, ap, ◌∙◌, append-nil, subst}
 use Rattle.std.specs.Prelude.{if◌then◌else◌}
 use Rattle.std.specs.List.{list_any}
 use Rattle.std.proofs.Math.Bool.{or-false}
 use Rattle.std.proofs.lemmas.List.Folds.{list_any-append}
 use Rattle.ccr_base.specs.declared.names.TaskId.{TaskId}
 use Rattle.ccr_base.specs.declared.names.MsgId.{MsgId}
-use Rattle.ccr_base.specs.declared.names.MsgId.TheVariants.{Script, Task}
 use Rattle.ccr_base.specs.declared.names.Spot.{Spot}
 use Rattle.ccr_base.specs.declared.messages.Msg.{Msg}
 use Rattle.ccr_base.specs.Names.{same_task, has_task}
 use Rattle.ccr_wiring.specs.declared.parts.Parts.{Parts}
 use Rattle.ccr_model.specs.declared.history.Event.{Event}
-use Rattle.ccr_model.specs.declared.history.Event.TheVariants.{Post, Fire, Admit, Put, Start, End}
-use Rattle.ccr_model.specs.declared.rule.Rule.TheVariants as rules
+use Rattle.ccr_model.specs.declared.history.Event.TheVariants.{Post, Fire, Admit}
 use Rattle.ccr_model.specs.Posts.{posts, post_of, is_message_of, posts_of_task}
-use Rattle.ccr_model.specs.Firings.{Firing, firing_of, fired, ever_admitted, admitted_by, put, ended, dropped, started, yielded, last_segments, last_by}
+use Rattle.ccr_model.specs.Firings.{fired, ever_admitted, admitted_by, put, ended, dropped, started, yielded, last_segments, last_by}
 use Rattle.ccr_model.specs.Sites.{root_of}
-use Rattle.ccr_model.specs.Tasks.{is_over, running}
-use Rattle.ccr_model.specs.Rules.{is_play_post, has_budget, refused}
+use Rattle.ccr_model.specs.Tasks.{is_over}
 use Rattle.ccr_model.specs.Legal.{IsAllowed, IsLegal}
 use Rattle.ccr_model.proofs.Allowing.{OneName-legal}
 use Rattle.ccr_model.proofs.ExclusiveRootsAreAlone.{lasts_fired, ever_admitted_fired}
-use Rattle.ccr_base.proofs.Booleans.{both, or_left, or_right, refuted, no_both}
+use Rattle.ccr_base.proofs.Booleans.{or_left, or_right, refuted, no_both}
 use Rattle.ccr_model.proofs.Cutting.{AdmitFacts-allowed, CutFacts-legal, waits_unput}
-use Rattle.ccr_model.proofs.Ending.{AreEnded-legal, RunningFacts-running}
+use Rattle.ccr_model.proofs.Ending.{AreEnded-legal}
 use Rattle.ccr_model.proofs.FiredTasks.{IsFired, fired_has, root_stays}
-use Rattle.ccr_model.proofs.AllowedFirings.{WaitingFacts-waiting, BranchFacts-where, firings-other}
-use Rattle.ccr_model.proofs.LegalParts.{along_legal}
-use Rattle.ccr_model.proofs.PostNames.{refused_not}
-use Rattle.ccr_model.proofs.OneMoreEvent.{posts-push, last-push, ever_admitted-push, fired-fire}
+use Rattle.ccr_model.proofs.AllowedFirings.{WaitingFacts-waiting, BranchFacts-where}
+use Rattle.ccr_model.proofs.OneMoreEvent.{posts-push, last-push, ever_admitted-push}
 use Rattle.ccr_model.proofs.Roots.{root_own, IsOneEach-legal}
-use Rattle.ccr_base.proofs.SameNames.{same_task-is, same_task-self, same_task-sym}
+use Rattle.ccr_base.proofs.SameNames.{same_task-is, same_task-self, same_task-sym, has_task-append}
 use Rattle.ccr_model.proofs.Suspending.{is_gone_on}
 use Rattle.ccr_model.proofs.TaskLists.{any_named, not_within}
-use Rattle.ccr_model.proofs.WhoWasPut.{ArePlaced-legal}
-use Rattle.ccr_model.proofs.TasksLeft.{has_task-append, out_left}
+use Rattle.ccr_model.proofs.WhoWasPut.{ArePlaced-legal, started_fired}
+use Rattle.ccr_model.proofs.NoPosts.{no_posts}
 use Rattle.ccr_ledger.specs.Kept.{is_admitted}
 use Rattle.ccr_ledger.proofs.ScriptPosts.{counted-post}
 
@@ -136,30 +131,5 @@ pub made-post : (h : List Event) (m : Msg) (id : MsgId) (u : TaskId) → m.id �
 made-post h m id u is = counted-post h m id (is_message_of u) is
 
 -- who never fired made no post
-abbrev HaveFired : List Event → Type 0
-HaveFired h = (t : TaskId) → has_task (fired h) t ≡ false → posts_of_task h t ≡ 0
-
-post_fired : (w : Parts) (h : List Event) (m : Msg) (id : MsgId) (t : TaskId) → m.id ≡ id → IsLegal w h → IsAllowed w h (Post m) → has_task (fired h) t ≡ false → is_message_of t id ≡ false
-post_fired w h m (Script actor place) t is legal allowed new = refl
-post_fired w h m (Task s place) t is legal allowed new =
-    let next : refused (is_play_post w h s place m) rules.PlayPost (refused (has_budget w h) rules.Budget None) ≡ None = rw is at allowed in
-    let runs = both (has_task (running h) s) _ (both _ _ (refused_not _ _ _ next).0).0 in
-    let placed = ArePlaced-legal w h legal in
-    let fired_so = fired_has h s (placed.all_fired s (placed.lists.put_started s (RunningFacts-running h s runs.0).started_so)) in
-    refuted (same_task t s) (λ same. no_both (subst (λ x. has_task (fired h) x ≡ true) (sym (same_task-is t s same)) fired_so) new)
-
-have_other : (h : List Event) (e : Event) → post_of e ≡ [] → firing_of e ≡ [] → HaveFired h → HaveFired (h ++ e ∷ [])
-have_other h e no_post no_firing known t new = made-other h e t no_post ∙ known t (sym (ap (λ fs. has_task (map (λ (f : Firing). f.task) fs) t) (firings-other h e no_firing)) ∙ new)
-
-HaveFired_kept : (w : Parts) (h : List Event) (e : Event) → IsLegal w h → IsAllowed w h e → HaveFired h → HaveFired (h ++ e ∷ [])
-HaveFired_kept w h (Post m) legal allowed known = λ t new.
-    let old : has_task (fired h) t ≡ false = sym (ap (λ fs. has_task (map (λ (f : Firing). f.task) fs) t) (firings-other h (Post m) refl)) ∙ new in
-    made-post h m m.id t refl ∙ rw (post_fired w h m m.id t refl legal allowed old) (known t old)
-HaveFired_kept w h (Fire s at ms cs) legal allowed known = λ t new. made-other h (Fire s at ms cs) t refl ∙ known t (out_left (fired h) (s ∷ []) t (sym (ap (λ ts. has_task ts t) (fired-fire h s at ms cs)) ∙ new))
-HaveFired_kept w h (Admit s) legal allowed known = have_other h (Admit s) refl refl known
-HaveFired_kept w h (Put s d) legal allowed known = have_other h (Put s d) refl refl known
-HaveFired_kept w h (Start s a) legal allowed known = have_other h (Start s a) refl refl known
-HaveFired_kept w h (End s how) legal allowed known = have_other h (End s how) refl refl known
-
 pub made-none : (w : Parts) (h : List Event) → IsLegal w h → (t : TaskId) → has_task (fired h) t ≡ false → posts_of_task h t ≡ 0
-made-none w h legal = along_legal w HaveFired (HaveFired_kept w) (λ t new. refl) h legal
+made-none w h legal t new = no_posts w h t legal (not_within (started h) (fired h) t (λ is. fired_has h t (started_fired w h legal t is)) new)

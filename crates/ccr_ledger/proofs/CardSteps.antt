@@ -22,7 +22,7 @@ use Rattle.ccr_model.specs.Legal.{IsAllowed, IsLegal}
 use Rattle.ccr_model.proofs.Cutting.{AdmitFacts-allowed}
 use Rattle.ccr_model.proofs.Ending.{RunningFacts-allowed}
 use Rattle.ccr_model.proofs.FiredTasks.{IsFired, root_stays, placement_fired}
-use Rattle.ccr_model.proofs.AllowedFirings.{firings-other}
+use Rattle.ccr_model.proofs.AllowedFirings.{firings-other, firing-same}
 use Rattle.ccr_base.proofs.SameNames.{same_task-sym, same_task-self}
 use Rattle.ccr_model.proofs.Stable.{firing_named-append, before-append, load_at-append, play_of-append}
 use Rattle.ccr_model.proofs.WhoWasPut.{ArePlaced-legal, PutFacts-allowed, StartFacts-allowed, new_drop}
@@ -61,9 +61,6 @@ card-step w h e u old new change same known moves step = of_firing (firing_named
     of_firing : (o : Option Firing) → firing_named h u ≡ o → new ≡ option_map (card_of w (h ++ e ∷ []) u) (firing_named (h ++ e ∷ []) u)
     of_firing None is = moves ∙ (ap (option_map change) (known ∙ ap (option_map (card_of w h u)) is) ∙ sym (ap (option_map (card_of w (h ++ e ∷ []) u)) (same ∙ is)))
     of_firing (Some f) is = moves ∙ (ap (option_map change) (known ∙ ap (option_map (card_of w h u)) is) ∙ (ap Some (sym (step f is)) ∙ sym (ap (option_map (card_of w (h ++ e ∷ []) u)) (same ∙ is))))
-
-firing-same : (h : List Event) (e : Event) (u : TaskId) → firing_of e ≡ [] → firing_named (h ++ e ∷ []) u ≡ firing_named h u
-firing-same h e u other = rw (firings-other h e other) refl
 
 -- the tables after an event that is no firing, by what it changes of each card
 keeps-other : (w : Parts) (h : List Event) (e : Event) (b c : Books) (change : TaskId → Card → Card) → firing_of e ≡ [] → KeepsTasks w h b → names c.tasks ≡ names b.tasks

@@ -2,13 +2,13 @@
 use Rattle.std.proofs.Common.{◌≡◌, ℕ, suc, ◌+◌, ◌-◌, ◌<◌, Bool, true, false, not, ◌&&◌, ◌||◌, List, [], ◌∷◌, ◌++◌, length, filter, refl, ap, ◌∙◌, arith, subst, length-append, append-nil}
 use Rattle.std.specs.Prelude.{◌==◌, if◌then◌else◌}
 use Rattle.std.proofs.Math.Bool.{and-true}
+use Rattle.std.proofs.lemmas.List.Elements.{filter-append}
 use Rattle.ccr_base.specs.declared.names.TaskId.{TaskId}
 use Rattle.ccr_base.specs.Names.{same_task, has_task, without}
 use Rattle.ccr_model.specs.Consequences.{are_distinct_tasks}
-use Rattle.ccr_base.proofs.SameNames.{same_task-is, same_task-self, same_task-sym}
+use Rattle.ccr_base.proofs.SameNames.{same_task-is, same_task-self, same_task-sym, has_task-append}
 use Rattle.ccr_base.proofs.Booleans.{both, not_true, or_left, or_right, and_false, same_number}
-use Rattle.ccr_model.proofs.TasksLeft.{filter_on, has_task-append}
-use Rattle.ccr_model.proofs.TaskLists.{filter_append}
+use Rattle.ccr_model.proofs.TasksLeft.{filter_on}
 use Rattle.ccr_ledger.specs.Books.{number, more, less}
 use Rattle.ccr_ledger.proofs.Tables.{number-set}
 
@@ -38,7 +38,7 @@ number-less true numbers index k low = number-set numbers index k (number number
 
 -- one more in a list
 pub length-more : (p : TaskId → Bool) (ts : List TaskId) (t : TaskId) → length (filter p (ts ++ t ∷ [])) ≡ more_if (p t) (length (filter p ts))
-length-more p ts t = rw (filter_append p ts (t ∷ []), length-append) (of_test (p t))
+length-more p ts t = rw (filter-append p ts (t ∷ []), length-append) (of_test (p t))
   where
     of_test : (b : Bool) → length (filter p ts) + length (if b then t ∷ [] else []) ≡ more_if b (length (filter p ts))
     of_test true = omega arith

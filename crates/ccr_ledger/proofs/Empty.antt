@@ -10,7 +10,7 @@ use Rattle.ccr_ledger.specs.Books.{number, flag, sites_each}
 use Rattle.ccr_ledger.specs.Events.{empty_books}
 use Rattle.ccr_ledger.specs.Kept.{HasSizes, KeepsScriptPosts, KeepsFlags}
 
-length-empty_rows : (T : Type 0) (n : ℕ) → length (empty_rows {T = T} n) ≡ n
+pub length-empty_rows : (T : Type 0) (n : ℕ) → length (empty_rows {T = T} n) ≡ n
 length-empty_rows T zero = refl
 length-empty_rows T (suc n) = ap suc (length-empty_rows T n)
 

@@ -14,26 +14,17 @@ use Rattle.ccr_model.specs.Consequences.{are_distinct_tasks}
 use Rattle.ccr_base.proofs.Booleans.{refuted, no_both, or_left, or_right}
 use Rattle.ccr_model.proofs.AllowedFirings.{FiresSo-allowed, firings-other}
 use Rattle.ccr_model.proofs.LegalParts.{along_legal}
-use Rattle.ccr_model.proofs.OneMoreEvent.{firings-push}
 use Rattle.ccr_model.proofs.TasksLeft.{distinct-push}
 use Rattle.ccr_model.proofs.TasksOnce.{some_of_all}
+use Rattle.ccr_model.proofs.Cutting.{fired_where-append}
 
--- one more firing, of those that pass
-passed-push : (test : Firing → Bool) (fs : List Firing) (f : Firing) → map (λ (g : Firing). g.task) (filter test (fs ++ f ∷ [])) ≡ map (λ (g : Firing). g.task) (filter test fs) ++ (if test f then f.task ∷ [] else [])
-passed-push test [] f = of_test (test f)
+-- one more firing, if it passes
+pub fired_where-fire : (test : Firing → Bool) (h : List Event) (t : TaskId) (s : Spot) (ms : List MsgId) (cs : List TaskId) → fired_where test (h ++ Fire t s ms cs ∷ []) ≡ fired_where test h ++ (if test (record { task = t; spot = s; messages = ms; cuts = cs }) then t ∷ [] else [])
+fired_where-fire test h t s ms cs = fired_where-append test h (Fire t s ms cs ∷ []) ∙ ap (λ ts. fired_where test h ++ ts) (of_test (test (record { task = t; spot = s; messages = ms; cuts = cs })))
   where
-    of_test : (b : Bool) → map (λ (g : Firing). g.task) (if b then f ∷ [] else []) ≡ (if b then f.task ∷ [] else [])
+    of_test : (b : Bool) → map (λ (g : Firing). g.task) (if b then (record { task = t; spot = s; messages = ms; cuts = cs }) ∷ [] else []) ≡ (if b then t ∷ [] else [])
     of_test true = refl
     of_test false = refl
-passed-push test (x ∷ fs) f = of_test (test x) (passed-push test fs f)
-  where
-    of_test : (b : Bool) → map (λ (g : Firing). g.task) (filter test (fs ++ f ∷ [])) ≡ map (λ (g : Firing). g.task) (filter test fs) ++ (if test f then f.task ∷ [] else [])
-        → map (λ (g : Firing). g.task) (if b then x ∷ filter test (fs ++ f ∷ []) else filter test (fs ++ f ∷ [])) ≡ map (λ (g : Firing). g.task) (if b then x ∷ filter test fs else filter test fs) ++ (if test f then f.task ∷ [] else [])
-    of_test true rest = ap (λ (ts : List TaskId). x.task ∷ ts) rest
-    of_test false rest = rest
-
-pub fired_where-fire : (test : Firing → Bool) (h : List Event) (t : TaskId) (s : Spot) (ms : List MsgId) (cs : List TaskId) → fired_where test (h ++ Fire t s ms cs ∷ []) ≡ fired_where test h ++ (if test (record { task = t; spot = s; messages = ms; cuts = cs }) then t ∷ [] else [])
-fired_where-fire test h t s ms cs = ap (λ fs. map (λ (g : Firing). g.task) (filter test fs)) (firings-push h (Fire t s ms cs)) ∙ passed-push test (firings h) (record { task = t; spot = s; messages = ms; cuts = cs })
 
 -- nobody stands twice among those that pass
 pub fired_once : (w : Parts) (test : Firing → Bool) (h : List Event) → IsLegal w h → are_distinct_tasks (fired_where test h) ≡ true

@@ -1,7 +1,6 @@
 -- Taking the oldest messages that a slot, a gather or a site takes is taking those of the names that were chosen.
 use Rattle.std.proofs.Common.{◌≡◌, ℕ, zero, suc, ◌+◌, ◌-◌, ◌≤◌, Bool, true, false, not, ◌&&◌, ◌||◌, List, [], ◌∷◌, ◌++◌, length, take, drop, refl, sym, ap, ◌∙◌, arith}
 use Rattle.std.specs.Prelude.{filter, if◌then◌else◌}
-use Rattle.std.proofs.lemmas.Grind.{common_steps}
 use Rattle.ccr_base.specs.declared.names.MsgId.{MsgId}
 use Rattle.ccr_base.specs.declared.messages.Msg.{Msg}
 use Rattle.ccr_base.specs.declared.patterns.Pred.{Pred}
@@ -14,15 +13,9 @@ use Rattle.ccr_model.specs.Selection.{names_of, are_first, are_split}
 use Rattle.ccr_model.proofs.PostNames.{times}
 use Rattle.ccr_model.proofs.TakenOnce.{times-filter}
 use Rattle.ccr_base.proofs.SameNames.{same_message-self, same_message-sym, same_message-is}
-use Rattle.ccr_base.proofs.Booleans.{both, or_none}
-use Rattle.ccr_model.proofs.MessageNames.{any_fits, left_by}
-
--- no name stands twice
-abbrev pub AreApart : List Msg → Type 0
-AreApart ms = (name : MsgId) → times name ms ≤ 1
-
-tail_apart : (m : Msg) (ms : List Msg) → AreApart (m ∷ ms) → AreApart ms
-tail_apart m ms apart name = grind (arith, apart name)
+use Rattle.ccr_base.proofs.Booleans.{or_none}
+use Rattle.ccr_model.proofs.MessageNames.{any_fits, left_by, AreApart, tail_apart, none_left}
+use Rattle.ccr_model.proofs.FirstNames.{first-names}
 
 zero_more : (n : ℕ) → suc n ≡ 0 → ⊥
 zero_more n is = omega arith
@@ -49,15 +42,6 @@ times-fitting : (name : MsgId) (n : ℕ) (pred : Pred) (ms : List Msg) → times
 times-fitting name zero pred ms none = refl
 times-fitting name (suc n) pred [] none = refl
 times-fitting name (suc n) pred (m ∷ ms) none = grind (arith, times-fitting name n pred ms, times-fitting name (suc n) pred ms)
-
-pub none_left : (ms : List Msg) → left_by [] ms ≡ ms
-none_left [] = refl
-none_left (m ∷ ms) = ap (λ (rest : List Msg). m ∷ rest) (none_left ms)
-
--- taking more names
-pub left_both : (names more : List MsgId) (ms : List Msg) → left_by (names ++ more) ms ≡ left_by more (left_by names ms)
-left_both names more [] = refl
-left_both names more (m ∷ ms) = grind (arith, common_steps, left_both names more ms)
 
 pub times-left : (name : MsgId) (names : List MsgId) (ms : List Msg) → times name (left_by names ms) ≤ times name ms
 times-left name names ms = times-filter name (λ (m : Msg). not (has_message names m.id)) ms
@@ -99,14 +83,6 @@ some-named n pred (m ∷ ms) apart = of_test (holds pred m.value) refl n (λ k. 
 -- and of all the oldest
 pub oldest-named : (n : ℕ) (ms : List Msg) → AreApart ms → drop n ms ≡ left_by (names_of (take n ms)) ms
 oldest-named n ms apart = sym (without-any n ms) ∙ (some-named n Any ms apart ∙ ap (λ fs. left_by (names_of (take n fs)) ms) (any_fits ms))
-
--- names of a first part are those of so many messages
-pub first-names : (ms : List Msg) (names : List MsgId) → are_first ms names ≡ true → names ≡ names_of (take (length names) ms)
-first-names ms [] is = refl
-first-names [] (n ∷ names) is = absurd (cc)
-first-names (m ∷ ms) (n ∷ names) is =
-    let parts = both (same_message m.id n) (are_first ms names) is in
-    rw (same_message-is m.id n parts.0) (ap (λ (ns : List MsgId). n ∷ ns) (first-names ms names parts.1))
 
 all-names : (ms : List Msg) (names : List MsgId) → are_first ms names ≡ true → names ≡ names_of (take (length names - 0) ms)
 all-names ms names is = let all : length names - 0 ≡ length names = omega arith in rw all (first-names ms names is)

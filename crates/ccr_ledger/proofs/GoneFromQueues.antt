@@ -11,7 +11,7 @@ use Rattle.ccr_model.specs.Firings.{put, started, started_by, dropped, dropped_b
 use Rattle.ccr_model.specs.Legal.{IsLegal}
 use Rattle.ccr_model.proofs.OneMoreEvent.{started-push, dropped-push, cut-push}
 use Rattle.ccr_base.proofs.Booleans.{refuted, no_both}
-use Rattle.ccr_model.proofs.TasksLeft.{has_task-append}
+use Rattle.ccr_base.proofs.SameNames.{has_task-append}
 use Rattle.ccr_model.proofs.TaskLists.{of_more, not_more, not_within}
 use Rattle.ccr_model.proofs.FiredTasks.{IsFired, AreFired}
 use Rattle.ccr_model.proofs.WhoWasPut.{ArePlaced-legal, QueuedFacts}

@@ -1,29 +1,19 @@
 -- Where one port holds too little for its slot, the slots have no selection; else each takes its own.
-use Rattle.std.proofs.Common.{◌≡◌, ◌∙◌, ap, ℕ, zero, suc, take, Bool, true, false, List, [], ◌∷◌, ◌++◌, flat_map, Option, Some, None, refl, length, ◌≤◌, arith}
+use Rattle.std.proofs.Common.{◌≡◌, ◌∙◌, ap, ℕ, zero, suc, take, Bool, true, false, List, [], ◌∷◌, ◌++◌, flat_map, Option, Some, None, refl}
 use Rattle.std.specs.Prelude.{option_map}
 use Rattle.std.specs.List.{list_all}
 use Rattle.std.proofs.lemmas.List.{map-append}
-use Rattle.ccr_ledger.specs.Rows.{row}
 use Rattle.ccr_base.specs.declared.names.MsgId.{MsgId}
 use Rattle.ccr_base.specs.declared.messages.Msg.{Msg}
 use Rattle.ccr_base.specs.declared.patterns.Slot.{Slot}
 use Rattle.ccr_base.specs.Selection.{selection, is_choosable}
-use Rattle.ccr_model.specs.Selection.{selection_of_slots, joined, names_of}
+use Rattle.ccr_base.proofs.Options.{not_some}
+use Rattle.ccr_model.specs.Selection.{selection_of_slots, names_of}
+use Rattle.ccr_model.proofs.CanFire.{some_selection_of_slots}
 use Rattle.ccr_ledger.specs.Taking.{slot_takes}
 
-none-behind : (o : Option (List Msg)) → joined o None ≡ None
-none-behind None = refl
-none-behind (Some ms) = refl
-
 pub no_selection_of_slots : (held_at : ℕ → List Msg) (slots : List Slot) → list_all (λ slot. is_choosable slot (held_at slot.port)) slots ≡ false → selection_of_slots held_at slots ≡ None
-no_selection_of_slots held_at [] lacking = absurd (cc)
-no_selection_of_slots held_at (slot ∷ slots) lacking = of_test (is_choosable slot (held_at slot.port)) refl (λ rest. no_selection_of_slots held_at slots rest)
-  where
-    of_test : (b : Bool) → is_choosable slot (held_at slot.port) ≡ b
-        → (list_all (λ slot. is_choosable slot (held_at slot.port)) slots ≡ false → selection_of_slots held_at slots ≡ None)
-        → selection_of_slots held_at (slot ∷ slots) ≡ None
-    of_test true enough rest = rw (rest (rw enough at lacking)) (none-behind (selection slot (held_at slot.port)))
-    of_test false enough rest = rw enough refl
+no_selection_of_slots held_at slots lacking = not_some (selection_of_slots held_at slots) (some_selection_of_slots held_at slots ∙ lacking)
 
 -- an empty port gives nothing
 pub none_taken : (held_at : ℕ → List Msg) (slot : Slot) → held_at slot.port ≡ [] → names_of (slot_takes held_at slot) ≡ []
@@ -32,12 +22,6 @@ none_taken held_at slot empty = rw empty (of_most slot.most)
     of_most : (n : ℕ) → names_of (take n []) ≡ []
     of_most zero = refl
     of_most (suc n) = refl
-
--- no row stands past the last
-pub none_past : (rows : List (List Msg)) (n : ℕ) → length rows ≤ n → row rows n ≡ []
-none_past [] n past = refl
-none_past (r ∷ rows) zero past = absurd (omega arith)
-none_past (r ∷ rows) (suc n) past = none_past rows n (omega arith)
 
 pub names_of_whole_selection : (held_at : ℕ → List Msg) (slots : List Slot) → list_all (λ slot. is_choosable slot (held_at slot.port)) slots ≡ true
     → option_map names_of (selection_of_slots held_at slots) ≡ Some (flat_map (λ slot. names_of (slot_takes held_at slot)) slots)

@@ -19,7 +19,7 @@ use Rattle.ccr_ledger.specs.Taken.{without_first}
 use Rattle.std.proofs.lemmas.Bool.{and_parts as both, ltb-true}
 use Rattle.ccr_base.proofs.Booleans.{and_false}
 use Rattle.ccr_base.proofs.Options.{none-above}
-use Rattle.ccr_base.proofs.Lists.{take_more}
+use Rattle.ccr_base.proofs.Lists.{take_more, all_both, all_weaker}
 
 -- ---- one index more
 
@@ -41,14 +41,6 @@ module _ (items : List (Option Msg)) (item : Option Msg) where
   filter-below [] low = refl
   filter-below (k ∷ ks) low = let parts = both _ _ low in rw (is_here-below items item k (ltb-true k (length items) parts.0), filter-below ks parts.1) refl
 
-low-more : (n m : ℕ) (ks : List ℕ) → m < n → list_all (λ k. nat_lt k m) ks ≡ true → list_all (λ k. nat_lt k n) ks ≡ true
-low-more n m [] less low = refl
-low-more n m (k ∷ ks) less low = let parts = both _ _ low in let first = ltb-true k m parts.0 in grind (arith, nat_tests, first, low-more n m ks less parts.1)
-
-low-append : (n : ℕ) (ks js : List ℕ) → list_all (λ k. nat_lt k n) ks ≡ true → list_all (λ k. nat_lt k n) js ≡ true → list_all (λ k. nat_lt k n) (ks ++ js) ≡ true
-low-append n [] js one other = other
-low-append n (k ∷ ks) js one other = let parts = both (nat_lt k n) (list_all (λ k. nat_lt k n) ks) one in rw (parts.0) (low-append n ks js parts.1 other)
-
 -- a lane that the last index was put behind, where it fits
 lane-more : (items : List (Option Msg)) (item : Option Msg) (lane : IndexLaneState) (more : List ℕ) (count : ℕ) → IsLane items lane
     → list_all (λ k. nat_lt k (length items + 1)) more ≡ true
@@ -59,7 +51,7 @@ lane-more items item lane more count is low fit counted =
     let last = fitting_indices-last 0 (length items) lane.pred items item (omega arith) in
     let long = length-append (fitting_indices 0 lane.pred items) (if fits lane.pred item then length items ∷ [] else []) in
     record {
-      low = rw (length-append items (item ∷ [])) (low-append (length items + 1) lane.indices more (low-more (length items + 1) (length items) lane.indices (omega arith) is.low) low);
+      low = rw (length-append items (item ∷ [])) (all_both (λ k. nat_lt k (length items + 1)) lane.indices more (all_weaker (λ k. nat_lt k (length items)) (λ k. nat_lt k (length items + 1)) (λ k low. grind (arith, nat_tests, low)) lane.indices is.low) low);
       whole = filter-append (is_here (items ++ item ∷ [])) lane.indices more ∙ rw (filter-below items item lane.indices is.low, is.whole, fit) (sym last);
       counted = omega (arith, counted, is.counted, long, ap length last);
     }

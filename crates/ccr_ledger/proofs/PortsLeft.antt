@@ -16,14 +16,15 @@ use Rattle.ccr_ledger.specs.Taken.{without_some, shared}
 use Rattle.ccr_model.specs.Selection.{names_of, selection_of_slots, are_first, are_split, is_selection_of, are_oldest}
 use Rattle.ccr_model.proofs.PostNames.{times}
 use Rattle.ccr_model.proofs.TakenOnce.{joined_some, selection_some, times-filter, times-take}
-use Rattle.ccr_model.proofs.FirstNames.{names_of-append, same_names}
-use Rattle.ccr_model.proofs.MessageNames.{left_by}
+use Rattle.ccr_model.proofs.FirstNames.{same_names, first-names}
+use Rattle.ccr_model.proofs.MessageNames.{left_by, none_left, left_both}
 use Rattle.ccr_base.proofs.Options.{some_of}
 use Rattle.ccr_base.proofs.Booleans.{both, neither, not_true, same_number, eq_turned}
 use Rattle.ccr_base.specs.Lists.{has_number, are_apart}
+use Rattle.ccr_base.proofs.SameNames.{names_of-append}
 use Rattle.ccr_ledger.specs.Taking.{take_slot, take_slots, take_oldest, take_gather, take_pattern}
 use Rattle.ccr_ledger.proofs.Tables.{length-with_row, row-with_row}
-use Rattle.ccr_ledger.proofs.Fitting.{none_left, left_both, times-left, apart_left, some-named, oldest-named, first-names, split-names}
+use Rattle.ccr_ledger.proofs.Fitting.{times-left, apart_left, some-named, oldest-named, split-names}
 
 -- the rows are what the ports hold, and no two messages of these have one name
 pub record AreHeld (ports : List (List Msg)) (held_at : ℕ → List Msg) : Type 0 where

@@ -2,25 +2,23 @@
 use Rattle.std.proofs.Common.{◌≡◌, ℕ, ◌<◌, true, false, List, [], ◌∷◌, ◌++◌, length, drop, Option, Some, None, option_to_list, refl, sym, ap, ◌∙◌, arith}
 use Rattle.std.specs.Prelude.{◌==◌, if◌then◌else◌}
 use Rattle.ccr_base.specs.declared.names.TaskId.{TaskId}
-use Rattle.ccr_base.specs.declared.names.MsgId.{MsgId}
-use Rattle.ccr_base.specs.declared.names.Spot.{Spot}
 use Rattle.ccr_base.specs.declared.names.Spot.TheVariants.{Branch, Site}
 use Rattle.ccr_base.specs.Names.{has_task, without}
 use Rattle.ccr_wiring.specs.declared.parts.Parts.{Parts}
 use Rattle.ccr_model.specs.declared.history.Event.{Event}
 use Rattle.ccr_model.specs.declared.history.Event.TheVariants.{Post, Fire, Admit, Put, Start, End}
-use Rattle.ccr_model.specs.Firings.{put, started, dropped}
+use Rattle.ccr_model.specs.Firings.{dropped}
 use Rattle.ccr_model.specs.Tasks.{queued}
 use Rattle.ccr_model.specs.Legal.{IsAllowed, IsLegal}
 use Rattle.ccr_base.proofs.Booleans.{refuted, no_both, same_number}
 use Rattle.ccr_base.proofs.Options.{head_rest}
-use Rattle.ccr_model.proofs.TaskLists.{has_oldest, not_more, none_gone}
+use Rattle.ccr_model.proofs.TaskLists.{has_oldest, none_gone}
 use Rattle.ccr_model.proofs.TaskSteps.{queued-start, queued-put, queued-fire}
-use Rattle.ccr_model.proofs.WhoWasPut.{ArePlaced-legal, PutFacts-allowed, QueuedFacts-queued, StartFacts-allowed, new_drop}
+use Rattle.ccr_model.proofs.WhoWasPut.{ArePlaced-legal, PutFacts-allowed, QueuedFacts-queued, StartFacts-allowed, new_drop, dropped_was_put}
 use Rattle.ccr_model.proofs.AllowedDrops.{drop_allowed}
-use Rattle.ccr_model.proofs.FiredTasks.{fired_has, placement_fired}
+use Rattle.ccr_model.proofs.FiredTasks.{placement_fired}
 use Rattle.ccr_model.proofs.AllowedFirings.{FiresSo-allowed}
-use Rattle.ccr_model.proofs.Queued.{queued_once, queued-other}
+use Rattle.ccr_model.proofs.Queued.{queued_once, queued-other, put_fresh, new_unput}
 use Rattle.ccr_ledger.specs.Rows.{row, with_row}
 use Rattle.ccr_ledger.specs.Books.{Books}
 use Rattle.ccr_ledger.specs.Events.{after_dropped, after_event}
@@ -48,10 +46,6 @@ queued-left w h t b q others legal sizes known facts first k low =
     let own = own_queue w h t b facts q (has_oldest (queued w h q) others t first) in
     row-left b.queued (queued w h) facts.card.queue k t others (omega (arith, low, sizes.queued)) (known k low) (ap (queued w h) own ∙ first) (queued_once w h facts.card.queue legal) (queued_elsewhere w h t b facts k)
 
--- who fires anew wasn't put
-unput : (w : Parts) (h : List Event) (t : TaskId) (s : Spot) (ms : List MsgId) (cs : List TaskId) → IsLegal w h → IsAllowed w h (Fire t s ms cs) → has_task (put h) t ≡ false
-unput w h t s ms cs legal allowed = refuted (has_task (put h) t) (λ is. no_both (fired_has h t ((ArePlaced-legal w h legal).all_fired t is)) (FiresSo-allowed w h t s ms cs allowed).new_name)
-
 -- the queues once the dropped one left
 module _ (w : Parts) (h : List Event) (t : TaskId) (b : Books) (legal : IsLegal w h) (sizes : HasSizes w b) (tasks : KeepsTasks w h b) (known : SaysQueued w h b.queued) where
   dropped_facts : (x : TaskId) → IsAllowed w h (Put t (Some x)) → CardFacts w h x b
@@ -73,17 +67,6 @@ module _ (w : Parts) (h : List Event) (t : TaskId) (b : Books) (legal : IsLegal 
       let head = head_rest (queued w h drop_so.its.branch.queue) x drop_so.oldest in
       ap (λ (r : Rows). row r.queued q) (rows-dropped x b facts.card facts.is_card) ∙ queued-left w h x b drop_so.its.branch.queue head.0 legal sizes known facts head.1 q low
 
-  -- who is put neither started nor was dropped, nor is it now
-  unmoved : (d : Option TaskId) → IsAllowed w h (Put t d) → has_task (started h ++ (dropped h ++ option_to_list d)) t ≡ false
-  unmoved d allowed =
-      let lists = (ArePlaced-legal w h legal).lists in
-      let new = (PutFacts-allowed w h t d allowed).new_put in
-      not_more (started h) (dropped h ++ option_to_list d) t
-      (refuted (has_task (started h) t) (λ is. no_both (lists.put_started t is) new))
-      (not_more (dropped h) (option_to_list d) t
-      (refuted (has_task (dropped h) t) (λ is. no_both (lists.put_dropped t is) new))
-      (refuted (has_task (option_to_list d) t) (λ is. no_both (new_drop w h (Put t d) t allowed is).1.put_so new)))
-
   queued-event-put : (d : Option TaskId) → IsAllowed w h (Put t d) → SaysQueued w (h ++ Put t d ∷ []) (after_event w (Put t d) b).queued
   queued-event-put d allowed q low =
       let so = PutFacts-allowed w h t d allowed in
@@ -92,7 +75,7 @@ module _ (w : Parts) (h : List Event) (t : TaskId) (b : Books) (legal : IsLegal 
       ∙ (row-entered (after_dropped d b).queued facts.card.queue q t (omega (arith, low, dropped-length d allowed))
       ∙ (ap (λ ts. ts ++ (if facts.card.queue == q then t ∷ [] else [])) (dropped-left d allowed q low)
       ∙ (ap (λ is. without (queued w h q) (option_to_list d) ++ (if is then t ∷ [] else [])) (sym (for_queue w h t b facts q))
-      ∙ sym (queued-put w h q t d (unmoved d allowed)))))
+      ∙ sym (queued-put w h q t d (put_fresh w h t d legal (PutFacts-allowed w h t d allowed).new_put (dropped_was_put w h t d allowed))))))
 
   queued-event-start : (a : ℕ) → IsAllowed w h (Start t a) → SaysQueued w (h ++ Start t a ∷ []) (after_event w (Start t a) b).queued
   queued-event-start a allowed q low =
@@ -104,7 +87,7 @@ pub queued-event : (w : Parts) (h : List Event) (e : Event) (b : Books) → IsLe
 queued-event w h (Put t d) b legal allowed sizes tasks known q low = queued-event-put w h t b legal sizes tasks known d allowed q low
 queued-event w h (Start t a) b legal allowed sizes tasks known q low = queued-event-start w h t b legal sizes tasks known a allowed q low
 queued-event w h (Post m) b legal allowed sizes tasks known q low = ap (λ (r : Rows). row r.queued q) (rows-post m b) ∙ (known q low ∙ sym (queued-other w h q (Post m) refl refl refl refl))
-queued-event w h (Fire t (Branch n) ms cs) b legal allowed sizes tasks known q low = ap (λ (r : Rows). row r.queued q) (rest-branch w t n ms cs b) ∙ (known q low ∙ sym (queued-fire w h q t (Branch n) ms cs (unput w h t (Branch n) ms cs legal allowed)))
-queued-event w h (Fire t (Site n k) ms cs) b legal allowed sizes tasks known q low = ap (λ (r : Rows). row r.queued q) (rest-site w t n k ms cs b) ∙ (known q low ∙ sym (queued-fire w h q t (Site n k) ms cs (unput w h t (Site n k) ms cs legal allowed)))
+queued-event w h (Fire t (Branch n) ms cs) b legal allowed sizes tasks known q low = ap (λ (r : Rows). row r.queued q) (rest-branch w t n ms cs b) ∙ (known q low ∙ sym (queued-fire w h q t (Branch n) ms cs (new_unput w h t legal (FiresSo-allowed w h t (Branch n) ms cs allowed).new_name)))
+queued-event w h (Fire t (Site n k) ms cs) b legal allowed sizes tasks known q low = ap (λ (r : Rows). row r.queued q) (rest-site w t n k ms cs b) ∙ (known q low ∙ sym (queued-fire w h q t (Site n k) ms cs (new_unput w h t legal (FiresSo-allowed w h t (Site n k) ms cs allowed).new_name)))
 queued-event w h (Admit t) b legal allowed sizes tasks known q low = ap (λ (r : Rows). row r.queued q) (rest-admit w t b) ∙ (known q low ∙ sym (queued-other w h q (Admit t) refl refl refl refl))
 queued-event w h (End t how) b legal allowed sizes tasks known q low = ap (λ (r : Rows). row r.queued q) (rest-end w t how b) ∙ (known q low ∙ sym (queued-other w h q (End t how) refl refl refl refl))

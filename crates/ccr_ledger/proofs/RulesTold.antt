@@ -21,6 +21,7 @@ use Rattle.ccr_base.proofs.SameNames.{same_task-sym}
 use Rattle.ccr_model.proofs.TasksLeft.{filter_on}
 use Rattle.ccr_model.proofs.WhoWasPut.{ArePlaced-legal}
 use Rattle.ccr_model.proofs.Ending.{AreEnded-legal}
+use Rattle.ccr_model.proofs.PlacementDomains.{placement-within}
 use Rattle.ccr_ledger.specs.Rows.{row}
 use Rattle.ccr_ledger.specs.declared.cards.Card.{Card}
 use Rattle.ccr_ledger.specs.declared.cards.Runner.{Runner}
@@ -28,7 +29,7 @@ use Rattle.ccr_ledger.specs.declared.cards.TaskStage.TheVariants as stages
 use Rattle.ccr_ledger.specs.Books.{Books, card_at, runners, runners_of}
 use Rattle.ccr_ledger.specs.Asked.{has_fired, waits_first, is_ready_stage, is_ready, queued_first, is_busy, runs, has_more, unfinished}
 use Rattle.ccr_ledger.specs.Kept.{Keeps, card_of}
-use Rattle.ccr_ledger.proofs.Telling.{arbiter_within, with_placement}
+use Rattle.ccr_ledger.proofs.Telling.{with_placement}
 
 -- over plain cards: who has one stands among their names
 has_card-named : (cards : List (TaskId × Card)) (t : TaskId) → option_map_or (λ (card : Card). true) (card_at cards t) false ≡ has_task (map (λ (e : TaskId × Card). e.0) cards) t
@@ -94,7 +95,7 @@ module _ (w : Parts) (valid : IsValid w) (h : List Event) (legal : IsLegal w h) 
       of_firing None at = rw at refl
       of_firing (Some f) at =
           let found = with_placement w valid h legal b keeps t f at in
-          rw (found.1, found.2, keeps.rows.waiting found.0.domain (arbiter_within w valid (branch_of f.spot) found.0 found.1)) refl
+          rw (found.1, found.2, keeps.rows.waiting found.0.domain (placement-within w (branch_of f.spot) found.0 found.1)) refl
 
   pub queued_first_told : (t : TaskId) → queued_first b t ≡ is_oldest_queued w h t
   queued_first_told t = rw (keeps.tasks.cards t) (of_firing (firing_named h t) refl)

@@ -15,16 +15,16 @@ use Rattle.ccr_model.specs.Firings.{cut, ever_admitted, admitted_by, put, put_by
 use Rattle.ccr_model.specs.Rules.{needs_no_admission}
 use Rattle.ccr_model.specs.Legal.{IsAllowed, IsLegal}
 use Rattle.ccr_model.proofs.Allowing.{OneName-legal}
-use Rattle.ccr_base.proofs.Booleans.{no_both}
+use Rattle.ccr_base.proofs.Booleans.{no_both, refuted}
 use Rattle.ccr_model.proofs.Cutting.{AdmitFacts-allowed, CutFacts-legal, waits_unput}
 use Rattle.ccr_model.proofs.Ending.{AreEnded-legal}
 use Rattle.ccr_model.proofs.AllowedFirings.{WaitingFacts-waiting}
 use Rattle.ccr_model.proofs.LegalParts.{legal_push}
 use Rattle.ccr_model.proofs.OneMoreEvent.{put-push, started-push, dropped-push, ended-push, ever_admitted-push, cut-push}
-use Rattle.ccr_base.proofs.SameNames.{same_task-is, same_task-sym}
+use Rattle.ccr_base.proofs.SameNames.{same_task-sym, has_task-append, has_task-push}
 use Rattle.ccr_model.proofs.TaskLists.{among_right, not_within}
 use Rattle.ccr_model.proofs.WhoWasPut.{ArePlaced-legal, PutFacts-allowed, new_drop}
-use Rattle.ccr_model.proofs.TasksLeft.{has_task-append}
+use Rattle.ccr_model.proofs.LegalIsCovered.{no_member}
 use Rattle.ccr_ledger.specs.declared.cards.TaskStage.{TaskStage}
 use Rattle.ccr_ledger.specs.declared.cards.TaskStage.TheVariants as stages
 use Rattle.ccr_ledger.specs.Kept.{stage_of}
@@ -41,9 +41,9 @@ stage_in es ss ds ps cs ls free u =
     if free || has_task ls u then stages.Ready else stages.Waiting
 
 has-last : (ts : List TaskId) (t u : TaskId) → has_task (ts ++ t ∷ []) u ≡ (if same_task t u then true else has_task ts u)
-has-last ts t u = rw (has_task-append ts (t ∷ []) u, same_task-sym u t) (of_tests (has_task ts u) (same_task t u))
+has-last ts t u = rw (has_task-push ts t u, same_task-sym u t) (of_tests (has_task ts u) (same_task t u))
   where
-    of_tests : (a b : Bool) → (a || (b || false)) ≡ (if b then true else a)
+    of_tests : (a b : Bool) → (a || b) ≡ (if b then true else a)
     of_tests true true = refl
     of_tests true false = refl
     of_tests false true = refl
@@ -51,7 +51,7 @@ has-last ts t u = rw (has_task-append ts (t ∷ []) u, same_task-sym u t) (of_te
 
 -- where u is t the lists that don't have t don't have u
 not_this : (ts : List TaskId) (t u : TaskId) → same_task t u ≡ true → has_task ts t ≡ false → has_task ts u ≡ false
-not_this ts t u is out = let one : t ≡ u = same_task-is t u is in subst (λ v. has_task ts v ≡ false) one out
+not_this ts t u is out = refuted (has_task ts u) (λ among. no_both is (no_member ts t u out among))
 
 in-end : (es ss ds ps cs ls : List TaskId) (free : Bool) (t u : TaskId) → stage_in (es ++ t ∷ []) ss ds ps cs ls free u ≡ (if same_task t u then stages.Ended else stage_in es ss ds ps cs ls free u)
 in-end es ss ds ps cs ls free t u = rw (has-last es t u) (of_test (same_task t u))

@@ -1,5 +1,5 @@
 -- Each allowed event keeps who is suspended at each site.
-use Rattle.std.proofs.Common.{◌≡◌, ℕ, ◌+◌, ◌*◌, ◌<◌, Bool, true, false, not, ◌&&◌, List, [], ◌∷◌, ◌++◌, length, filter, drop, Some, None, refl, sym, ap, ◌∙◌, append-nil, arith, subst}
+use Rattle.std.proofs.Common.{◌≡◌, ℕ, ◌+◌, ◌*◌, ◌<◌, Bool, true, false, not, ◌&&◌, List, [], ◌∷◌, ◌++◌, length, drop, Some, None, refl, sym, ap, ◌∙◌, append-nil, arith}
 use Rattle.std.specs.Prelude.{◌==◌, if◌then◌else◌, nat_lt, option_and_then, option_map}
 use Rattle.std.specs.List.{slice_get}
 use Rattle.std.specs.Option.{option_map_or}
@@ -16,19 +16,19 @@ use Rattle.ccr_model.specs.declared.history.Event.{Event}
 use Rattle.ccr_model.specs.declared.history.Event.TheVariants.{Post, Fire, Admit, Put, Start, End}
 use Rattle.ccr_model.specs.declared.history.EndHow.{EndHow}
 use Rattle.ccr_model.specs.declared.history.EndHow.TheVariants as ends
-use Rattle.ccr_model.specs.Firings.{Firing, firing_of, firing_named, yielded_by}
+use Rattle.ccr_model.specs.Firings.{Firing, firing_named, yielded_by}
 use Rattle.ccr_model.specs.Sites.{suspended, yields_at}
 use Rattle.ccr_model.specs.TaskData.{load_at, play_of, play_at}
 use Rattle.ccr_model.specs.Tasks.{has_post_left, running}
 use Rattle.ccr_model.specs.Rules.{ends_so, may_end}
 use Rattle.ccr_model.specs.Legal.{IsAllowed, IsLegal}
-use Rattle.ccr_base.proofs.Booleans.{both, and_false, refuted, no_both, same_number, eq-self}
+use Rattle.ccr_base.proofs.Booleans.{both, and_false, refuted, no_both, same_number}
 use Rattle.ccr_model.proofs.Ending.{RunningFacts-allowed}
-use Rattle.ccr_model.proofs.FiredTasks.{none_fired}
 use Rattle.ccr_base.proofs.Options.{some-below}
+use Rattle.ccr_base.proofs.TwoDigits.{same_digits}
 use Rattle.ccr_model.proofs.PlayPast.{play_at-past}
 use Rattle.ccr_model.proofs.PostNames.{refused_not}
-use Rattle.ccr_model.proofs.Suspending.{ResumeFacts, ResumeFacts-allowed, suspended-other, suspended-branch, suspended-elsewhere, suspended-here, same_site, end_fired}
+use Rattle.ccr_model.proofs.Suspending.{ResumeFacts, ResumeFacts-allowed, suspended-other, suspended-branch, suspended-elsewhere, suspended-here, same_site, end_fired, suspended-same}
 use Rattle.ccr_model.proofs.WhoWasPut.{ArePlaced, ArePlaced-legal}
 use Rattle.ccr_ledger.specs.Rows.{row, with_row}
 use Rattle.ccr_ledger.specs.Books.{Books, card_at, suspended_at, with_suspended}
@@ -43,15 +43,6 @@ use Rattle.ccr_ledger.proofs.TaskCards.{CardFacts, CardFacts-fired}
 -- the rows say who is suspended
 abbrev pub SaysSuspended : List Event → List (List TaskId) → Type 0
 SaysSuspended h rows = (b k : ℕ) → suspended_at rows b k ≡ suspended h (Site b k)
-
--- each site has a row of its own
-one_row : (n k b l : ℕ) → k < 16 → l < 16 → (n * 16 + k == b * 16 + l) ≡ (n == b) && (k == l)
-one_row n k b l low less = of_tests (n == b) (k == l) refl refl
-  where
-    of_tests : (c d : Bool) → (n == b) ≡ c → (k == l) ≡ d → (n * 16 + k == b * 16 + l) ≡ c && d
-    of_tests true true same alike = rw (same_number n b same, same_number k l alike) (eq-self (b * 16 + l))
-    of_tests false d other alike = refuted (n * 16 + k == b * 16 + l) (λ is. (let one : n ≡ b = omega (arith, low, less, same_number (n * 16 + k) (b * 16 + l) is) in no_both (subst (λ m. (n == m) ≡ true) one (eq-self n)) other))
-    of_tests true false same other = refuted (n * 16 + k == b * 16 + l) (λ is. (let one : k ≡ l = omega (arith, same_number n b same, same_number (n * 16 + k) (b * 16 + l) is) in no_both (subst (λ m. (k == m) ≡ true) one (eq-self k)) other))
 
 -- a row past the last has nobody, and a site without a row neither
 row-with_low : (rows : List (List TaskId)) (n k : ℕ) (items : List TaskId) → n < length rows → row (with_row rows n items) k ≡ (if n == k then items else row rows k)
@@ -68,7 +59,7 @@ suspended-set : (rows : List (List TaskId)) (n k b l : ℕ) (items : List TaskId
 suspended-set rows n k b l items low within = ap (λ is. suspended_at (if is then with_row rows (n * 16 + k) items else rows) b l) (lt-ltb k 16 low) ∙ of_site (nat_lt l 16) refl
   where
     of_site : (is : Bool) → nat_lt l 16 ≡ is → (if is then row (with_row rows (n * 16 + k) items) (b * 16 + l) else []) ≡ (if (n == b) && (k == l) then items else if is then row rows (b * 16 + l) else [])
-    of_site true is = row-with_low rows (n * 16 + k) (b * 16 + l) items within ∙ ap (λ same. if same then items else row rows (b * 16 + l)) (one_row n k b l low (ltb-true l 16 is))
+    of_site true is = row-with_low rows (n * 16 + k) (b * 16 + l) items within ∙ ap (λ same. if same then items else row rows (b * 16 + l)) (same_digits 16 n k b l low (ltb-true l 16 is))
     of_site false is =
         let past = ltb-false l 16 is in
         let other : (k == l) ≡ false = refuted (k == l) (λ same. absurd (omega (arith, low, past, same_number k l same))) in
@@ -89,13 +80,7 @@ has_row rows n k t others is = of_site (nat_lt k 16) refl is
     of_site true low found = (ltb-true k 16 low, of_row (n * 16 + k) found)
     of_site false past found = absurd (cc)
 
--- an event that neither fires nor suspends leaves those that are suspended
 module _ (w : Parts) (h : List Event) (legal : IsLegal w h) where
-  suspended-same : (e : Event) (b k : ℕ) → firing_of e ≡ [] → yielded_by e ≡ [] → suspended (h ++ e ∷ []) (Site b k) ≡ suspended h (Site b k)
-  suspended-same e b k none no_yield =
-      suspended-other w h e b k none legal (λ t is. none_fired h t (subst (λ ts. has_task ts t ≡ true) no_yield is))
-      ∙ (ap (λ ts. suspended h (Site b k) ++ filter (yields_at h (Site b k)) ts) no_yield ∙ append-nil (suspended h (Site b k)))
-
   -- a firing at a site resumes the first
   suspended-event-site : (t : TaskId) (n k : ℕ) (ms : List MsgId) (cs : List TaskId) (b : Books) → IsAllowed w h (Fire t (Site n k) ms cs) → KeepsTasks w h b → SaysSuspended h b.suspended → SaysSuspended (h ++ Fire t (Site n k) ms cs ∷ []) (after_event w (Fire t (Site n k) ms cs) b).suspended
   suspended-event-site t n k ms cs b allowed tasks known c l =
@@ -173,7 +158,7 @@ suspended-event-end : (w : Parts) (h : List Event) (t : TaskId) (how : EndHow) (
 suspended-event-end w h t how b not_so no_yield legal allowed tasks known c l =
     let placed = ArePlaced-legal w h legal in
     let facts = CardFacts-fired w h t b legal tasks (placed.all_fired t (placed.lists.put_started t (RunningFacts-allowed w h t how allowed).started_so)) in
-    ap (λ (r : Rows). suspended_at r.suspended c l) (rows-end w t how b facts.card facts.is_card not_so) ∙ (known c l ∙ sym (suspended-same w h legal (End t how) c l refl no_yield))
+    ap (λ (r : Rows). suspended_at r.suspended c l) (rows-end w t how b facts.card facts.is_card not_so) ∙ (known c l ∙ sym (suspended-same w h (End t how) legal refl no_yield c l))
 
 pub suspended-event : (w : Parts) → IsValid w → (h : List Event) (e : Event) (b : Books) → IsLegal w h → IsAllowed w h e → HasSizes w b → KeepsTasks w h b → SaysSuspended h b.suspended → SaysSuspended (h ++ e ∷ []) (after_event w e b).suspended
 suspended-event w valid h (Fire t (Site n k) ms cs) b legal allowed sizes tasks known c l = suspended-event-site w h legal t n k ms cs b allowed tasks known c l
@@ -182,7 +167,7 @@ suspended-event w valid h (End t ends.Done) b legal allowed sizes tasks known c 
 suspended-event w valid h (End t (ends.Failed v)) b legal allowed sizes tasks known c l = suspended-event-end w h t (ends.Failed v) b refl refl legal allowed tasks known c l
 suspended-event w valid h (End t ends.Shed) b legal allowed sizes tasks known c l = suspended-event-end w h t ends.Shed b refl refl legal allowed tasks known c l
 suspended-event w valid h (Fire t (Branch n) ms cs) b legal allowed sizes tasks known c l = ap (λ (r : Rows). suspended_at r.suspended c l) (rest-branch w t n ms cs b) ∙ (known c l ∙ sym (suspended-branch w h t n ms cs c l legal))
-suspended-event w valid h (Post m) b legal allowed sizes tasks known c l = ap (λ (r : Rows). suspended_at r.suspended c l) (rows-post m b) ∙ (known c l ∙ sym (suspended-same w h legal (Post m) c l refl refl))
-suspended-event w valid h (Admit t) b legal allowed sizes tasks known c l = ap (λ (r : Rows). suspended_at r.suspended c l) (rest-admit w t b) ∙ (known c l ∙ sym (suspended-same w h legal (Admit t) c l refl refl))
-suspended-event w valid h (Put t d) b legal allowed sizes tasks known c l = ap (λ (r : Rows). suspended_at r.suspended c l) (rest-put w t d b) ∙ (known c l ∙ sym (suspended-same w h legal (Put t d) c l refl refl))
-suspended-event w valid h (Start t a) b legal allowed sizes tasks known c l = ap (λ (r : Rows). suspended_at r.suspended c l) (rest-start w t a b) ∙ (known c l ∙ sym (suspended-same w h legal (Start t a) c l refl refl))
+suspended-event w valid h (Post m) b legal allowed sizes tasks known c l = ap (λ (r : Rows). suspended_at r.suspended c l) (rows-post m b) ∙ (known c l ∙ sym (suspended-same w h (Post m) legal refl refl c l))
+suspended-event w valid h (Admit t) b legal allowed sizes tasks known c l = ap (λ (r : Rows). suspended_at r.suspended c l) (rest-admit w t b) ∙ (known c l ∙ sym (suspended-same w h (Admit t) legal refl refl c l))
+suspended-event w valid h (Put t d) b legal allowed sizes tasks known c l = ap (λ (r : Rows). suspended_at r.suspended c l) (rest-put w t d b) ∙ (known c l ∙ sym (suspended-same w h (Put t d) legal refl refl c l))
+suspended-event w valid h (Start t a) b legal allowed sizes tasks known c l = ap (λ (r : Rows). suspended_at r.suspended c l) (rest-start w t a b) ∙ (known c l ∙ sym (suspended-same w h (Start t a) legal refl refl c l))

@@ -69,3 +69,11 @@ unwritten change (e ∷ cards) t at = of_test (same_task t e.0) at (unwritten ch
         → e ∷ cards ≡ (if b then (e.0, change e.1) ∷ cards else e ∷ changed change t cards)
     of_test true here rest = absurd (cc)
     of_test false here rest = ap (λ (es : List (TaskId × Card)). e ∷ es) (rest here)
+
+-- a write to one row leaves the others
+pub row-other : {X : Type 0} (rows : List (List X)) (n k : ℕ) (items : List X) → (n == k) ≡ false → row (with_row rows n items) k ≡ row rows k
+row-other [] n k items other = refl
+row-other (r ∷ rows) zero zero items other = absurd (cc)
+row-other (r ∷ rows) zero (suc k) items other = refl
+row-other (r ∷ rows) (suc n) zero items other = refl
+row-other (r ∷ rows) (suc n) (suc k) items other = row-other rows n k items (grind (arith, nat_tests, other))

@@ -1,8 +1,7 @@
 -- The messages that a firing takes out of the ports are those that it names.
-use Rattle.std.proofs.Common.{◌≡◌, ℕ, zero, suc, ◌+◌, ◌-◌, ◌<◌, ◌≤◌, Bool, true, false, not, ◌&&◌, ◌||◌, List, [], ◌∷◌, ◌++◌, length, take, drop, filter, Some, inl, inr, refl, sym, ap, ◌∙◌, arith, subst}
-use Rattle.std.specs.Prelude.{◌==◌, if◌then◌else◌, find, filter_map}
+use Rattle.std.proofs.Common.{◌≡◌, ℕ, suc, ◌+◌, ◌-◌, ◌<◌, ◌≤◌, Bool, true, false, not, ◌&&◌, ◌||◌, List, [], ◌∷◌, ◌++◌, length, take, drop, filter, Some, inl, inr, refl, sym, ap, ◌∙◌, arith, subst}
+use Rattle.std.specs.Prelude.{◌==◌, if◌then◌else◌}
 use Rattle.std.specs.List.{slice_get}
-use Rattle.std.proofs.lemmas.Bool.Decides.{nat_tests}
 use Rattle.ccr_base.specs.declared.names.MsgId.{MsgId}
 use Rattle.ccr_base.specs.declared.messages.Msg.{Msg}
 use Rattle.ccr_base.specs.declared.patterns.Slot.{Slot}
@@ -19,38 +18,26 @@ use Rattle.ccr_model.specs.declared.history.Event.{Event}
 use Rattle.ccr_model.specs.Posts.{posts, taken, held, messages_named}
 use Rattle.ccr_model.specs.Selection.{names_of, selection_of_slots, are_first, are_split, are_oldest, is_selection_of, is_selection}
 use Rattle.ccr_model.specs.Legal.{IsLegal}
-use Rattle.ccr_base.proofs.Booleans.{both, neither, either, not_true, same_number}
+use Rattle.ccr_base.proofs.Booleans.{both, either, not_true, same_number, eq_turned}
 use Rattle.ccr_model.proofs.Members.{Among, Among-either, Among-kept, Among-take}
 use Rattle.ccr_base.proofs.Options.{some_of}
 use Rattle.ccr_base.specs.Lists.{has_number, are_apart}
 use Rattle.ccr_model.proofs.PostNames.{times, posted_once}
-use Rattle.ccr_base.proofs.SameNames.{same_message-is}
+use Rattle.ccr_base.proofs.SameNames.{same_message-is, same_lists-is}
+use Rattle.ccr_base.proofs.Lists.{none_at}
 use Rattle.ccr_model.proofs.TakenOnce.{joined_some, selection_some, times-filter, times-two}
-use Rattle.ccr_model.proofs.MessageNames.{found_once}
+use Rattle.ccr_model.proofs.MessageNames.{named-found, of_held}
+use Rattle.ccr_model.proofs.FirstNames.{first-names}
 use Rattle.ccr_ledger.specs.Rows.{row, with_row}
 use Rattle.ccr_ledger.specs.Taken.{shared}
 use Rattle.ccr_ledger.specs.Books.{Books}
 use Rattle.ccr_ledger.specs.Taking.{take_slot, take_slots, take_pattern, take_site}
 use Rattle.ccr_ledger.specs.Kept.{HasSizes, KeepsPorts}
-
--- some of the messages, found by their names
-named-found : (all ms : List Msg) → ((name : MsgId) → times name all ≤ 1) → ((m : Msg) → Among m ms → Among m all) → filter_map (λ name. find (λ (o : Msg). same_message o.id name) all) (names_of ms) ≡ ms
-named-found all [] once within = refl
-named-found all (m ∷ ms) once within = rw (found_once all m (within m (inl refl)) (once m.id)) (ap (λ (rest : List Msg). m ∷ rest) (named-found all ms once (λ x is. within x (inr is))))
-
--- a write to one row leaves the others
-row-other : (rows : List (List Msg)) (n k : ℕ) (items : List Msg) → (n == k) ≡ false → row (with_row rows n items) k ≡ row rows k
-row-other [] n k items other = refl
-row-other (r ∷ rows) zero zero items other = absurd (cc)
-row-other (r ∷ rows) zero (suc k) items other = refl
-row-other (r ∷ rows) (suc n) zero items other = refl
-row-other (r ∷ rows) (suc n) (suc k) items other = row-other rows n k items (grind (arith, nat_tests, other))
+use Rattle.ccr_ledger.proofs.Tables.{row-other}
 
 -- a port that stands there isn't one that doesn't
 apart_at : (ports : List ℕ) (index port other : ℕ) → slice_get ports index ≡ Some port → has_number ports other ≡ false → (other == port) ≡ false
-apart_at [] index port other is out = absurd (cc)
-apart_at (p ∷ ports) zero port other is out = let same : p ≡ port = cc in let parts = neither (p == other) (has_number ports other) out in grind (arith, nat_tests, same, parts.0)
-apart_at (p ∷ ports) (suc index) port other is out = apart_at ports index port other is (neither (p == other) (has_number ports other) out).1
+apart_at ports index port other is out = eq_turned port other (none_at (λ x. x == other) ports index port out is)
 
 -- slots of different ports take their selection
 slots-take : (slots : List Slot) (ports : List (List Msg)) (held_at : ℕ → List Msg) (xs : List Msg) → ((index port : ℕ) → slice_get (slot_ports slots) index ≡ Some port → row ports port ≡ held_at port)
@@ -74,14 +61,6 @@ selection-within (slot ∷ slots) held_at all xs within is m among =
       | inr there ↦ selection-within slots held_at all parts.1 within parts.3 m there
     ]
 
--- the names of the first messages
-first-named : (ms : List Msg) (names : List MsgId) → are_first ms names ≡ true → names_of (take (length names) ms) ≡ names
-first-named ms [] is = refl
-first-named [] (n ∷ names) is = absurd (cc)
-first-named (m ∷ ms) (n ∷ names) is =
-    let parts = both (same_message m.id n) (are_first ms names) is in
-    ap (λ (id : MsgId). id ∷ names_of (take (length names) ms)) (same_message-is m.id n parts.0) ∙ ap (λ (ns : List MsgId). n ∷ ns) (first-named ms names parts.1)
-
 first-has : (ms : List Msg) (n : MsgId) (names : List MsgId) → are_first ms (n ∷ names) ≡ true → 0 < times n ms
 first-has [] n names is = absurd (cc)
 first-has (m ∷ ms) n names is = rw (both (same_message m.id n) (are_first ms names) is).0 (omega arith)
@@ -91,7 +70,7 @@ split-named : (a b : List Msg) (names : List MsgId) → are_split a b names ≡ 
 split-named a b [] is apart = refl
 split-named [] b (n ∷ names) is apart =
     let all : length (n ∷ names) ≡ length (n ∷ names) - 0 = omega arith in
-    subst (λ k. names_of (take k b) ≡ n ∷ names) all (first-named b (n ∷ names) is)
+    subst (λ k. names_of (take k b) ≡ n ∷ names) all (sym (first-names b (n ∷ names) is))
 split-named (m ∷ a) b (n ∷ names) is apart = of_test (same_message m.id n) refl is (split-named a b names)
   where
     of_test : (same : Bool) → same_message m.id n ≡ same → are_first b (n ∷ names) || (same && are_split a b names) ≡ true
@@ -113,18 +92,11 @@ split-named (m ∷ a) b (n ∷ names) is apart = of_test (same_message m.id n) r
     of_test false e at rest =
         let first = either (are_first b (n ∷ names)) false at (are_first b (n ∷ names) ≡ true) (λ f. f) (λ never. absurd (cc)) in
         let all : length (n ∷ names) ≡ length (n ∷ names) - 0 = omega arith in
-        subst (λ k. names_of (take k b) ≡ n ∷ names) all (first-named b (n ∷ names) first)
-
--- the same by their names, the same
-same_messages-is : (xs ys : List MsgId) → same_lists same_message xs ys ≡ true → xs ≡ ys
-same_messages-is [] [] is = refl
-same_messages-is [] (y ∷ ys) is = absurd (cc)
-same_messages-is (x ∷ xs) [] is = absurd (cc)
-same_messages-is (x ∷ xs) (y ∷ ys) is = let parts = both (same_message x y) (same_lists same_message xs ys) is in rw (same_message-is x y parts.0, same_messages-is xs ys parts.1) refl
+        subst (λ k. names_of (take k b) ≡ n ∷ names) all (sym (first-names b (n ∷ names) first))
 
 module _ (w : Parts) (valid : IsValid w) (h : List Event) (legal : IsLegal w h) (b : Books) (sizes : HasSizes w b) (ports : KeepsPorts w h b) where
   held-posted : (port : ℕ) (m : Msg) → Among m (held h port) → Among m (posts h)
-  held-posted port m among = Among-kept (λ (o : Msg). o.port == port) (posts h) m (Among-kept (λ (o : Msg). not (has_message (taken h) o.id)) _ m among)
+  held-posted port m among = (of_held h port m among).0
 
   -- posted messages of these names are the ones that are found by them
   found : (ms : List Msg) (names : List MsgId) → names_of ms ≡ names → ((m : Msg) → Among m ms → Among m (posts h)) → ms ≡ messages_named h names
@@ -135,7 +107,7 @@ module _ (w : Parts) (valid : IsValid w) (h : List Event) (legal : IsLegal w h) 
   of_slots slots names low once is =
       let made = some_of (λ (ms : List Msg). same_lists same_message (names_of ms) names) (selection_of_slots (held h) slots) is in
       slots-take slots b.ports (held h) made.0 (λ index port at. ports.ports port (low index port at)) once made.1
-      ∙ found made.0 names (same_messages-is (names_of made.0) names made.2) (selection-within slots (held h) (posts h) made.0 held-posted made.1)
+      ∙ found made.0 names (same_lists-is same_message same_message-is (names_of made.0) names made.2) (selection-within slots (held h) (posts h) made.0 held-posted made.1)
 
   of_gather : (total first second : ℕ) (names : List MsgId) → first < length w.ports → second < length w.ports → not (first == second) ≡ true → is_selection_of (held h) (Gather total first second) names ≡ true
       → (take_pattern (Gather total first second) names b.ports).messages ≡ messages_named h names
@@ -174,4 +146,4 @@ module _ (w : Parts) (valid : IsValid w) (h : List Event) (legal : IsLegal w h) 
       of_port : (port : ℕ) → port < length w.ports → ((length names == 1) ≡ true) × (are_first (held h port) names ≡ true) → take 1 (row b.ports port) ≡ messages_named h names
       of_port port low parts =
           let one : length names ≡ 1 = same_number (length names) 1 parts.0 in
-          ap (take 1) (ports.ports port low) ∙ found (take 1 (held h port)) names (subst (λ k. names_of (take k (held h port)) ≡ names) one (first-named (held h port) names parts.1)) (λ m among. held-posted port m (Among-take 1 (held h port) m among))
+          ap (take 1) (ports.ports port low) ∙ found (take 1 (held h port)) names (subst (λ k. names_of (take k (held h port)) ≡ names) one (sym (first-names (held h port) names parts.1))) (λ m among. held-posted port m (Among-take 1 (held h port) m among))

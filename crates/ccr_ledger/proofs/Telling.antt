@@ -1,6 +1,6 @@
 -- What the tables answer is what the model says, where they keep what it says.
 use Rattle.std.proofs.Common.{◌≡◌, ◌∙◌, ℕ, suc, ◌<◌, Bool, true, false, not, ◌&&◌, List, [], ◌∷◌, length, filter, Option, None, Some, refl, ap, arith}
-use Rattle.std.specs.Prelude.{◌==◌, nat_lt, if◌then◌else◌, option_map, option_and_then, IsSomeAnd}
+use Rattle.std.specs.Prelude.{◌==◌, nat_lt, if◌then◌else◌, option_map, option_and_then}
 use Rattle.std.specs.List.{slice_get, list_all}
 use Rattle.std.specs.Option.{option_map_or}
 use Rattle.std.proofs.lemmas.Bool.Decides.{nat_tests}
@@ -19,7 +19,6 @@ use Rattle.ccr_base.specs.declared.policies.Policy.TheVariants as policies
 use Rattle.ccr_base.specs.Names.{same_task, same_message, same_lists, has_task}
 use Rattle.ccr_base.specs.Selection.{is_choosable}
 use Rattle.ccr_wiring.specs.declared.parts.Parts.{Parts}
-use Rattle.ccr_wiring.specs.declared.parts.ArbiterPart.{ArbiterPart}
 use Rattle.ccr_wiring.specs.Wirings.{Placement, placement, placements, policy_of, site_port, branch_of}
 use Rattle.ccr_wiring.specs.Repeats.{slot_ports}
 use Rattle.ccr_wiring.specs.Spots.{pattern_ports}
@@ -40,20 +39,13 @@ use Rattle.ccr_model.proofs.Members.{found_among}
 use Rattle.ccr_model.proofs.LegalIsCovered.{running_started}
 use Rattle.ccr_model.proofs.WhoWasPut.{ArePlaced-legal, placement_by}
 use Rattle.ccr_model.proofs.FiringPlacements.{firing_with_placement}
+use Rattle.ccr_model.proofs.PlacementDomains.{placement-within}
 use Rattle.ccr_base.proofs.Booleans.{not_not}
 use Rattle.ccr_ledger.specs.Rows.{row}
 use Rattle.ccr_ledger.specs.declared.cards.Card.{Card}
 use Rattle.ccr_ledger.specs.Books.{Books, number}
 use Rattle.ccr_ledger.specs.Asked.{lives, group_lives, room, queue_has_room, can_choose, selection_at, are_selected, cuts, may_admit_task, may_admit_card, drops, play_in, made_in, budget_lasts}
 use Rattle.ccr_ledger.specs.Kept.{Keeps, card_of}
-
--- the number of a branch's domain is one of the wiring's arbiters
-pub arbiter_within : (w : Parts) → IsValid w → (n : ℕ) (s : Placement) → placement w n ≡ Some s → s.domain < length w.arbiters
-arbiter_within w valid n s at = of_arbiter (slice_get w.arbiters s.domain) refl ((sound w valid).domains n s at)
-  where
-    of_arbiter : (o : Option ArbiterPart) → slice_get w.arbiters s.domain ≡ o → IsSomeAnd o (λ (arbiter : ArbiterPart). arbiter.kind ≡ s.kind) → s.domain < length w.arbiters
-    of_arbiter None there is = absurd is
-    of_arbiter (Some arbiter) there is = some-below w.arbiters s.domain arbiter there
 
 -- what is asked of the ports of a pattern is the same where they hold the same
 slots_same : (f g : ℕ → List Msg) (slots : List Slot) → ((index port : ℕ) → slice_get (slot_ports slots) index ≡ Some port → f port ≡ g port) → selection_of_slots f slots ≡ selection_of_slots g slots
@@ -105,10 +97,10 @@ module _ (w : Parts) (valid : IsValid w) (h : List Event) (legal : IsLegal w h) 
   group_told : (n : ℕ) (s : Placement) → placement w n ≡ Some s → (g : Group) → group_lives b n s.domain g ≡ is_live_in w h n s.domain g
   group_told n s at groups.Always = refl
   group_told n s at groups.Once = rw (keeps.flags.spent n (some-below (placements w) n s at)) (not_not _)
-  group_told n s at groups.Choice = rw (keeps.flags.chosen s.domain (arbiter_within w valid n s at)) (not_not _)
-  group_told n s at groups.Concurrent = rw (keeps.flags.torn s.domain (arbiter_within w valid n s at)) (not_not _)
-  group_told n s at groups.Exclusive = rw (keeps.flags.torn s.domain (arbiter_within w valid n s at)) (not_not _)
-  group_told n s at groups.Teardown = rw (keeps.flags.torn s.domain (arbiter_within w valid n s at)) (not_not _)
+  group_told n s at groups.Choice = rw (keeps.flags.chosen s.domain (placement-within w n s at)) (not_not _)
+  group_told n s at groups.Concurrent = rw (keeps.flags.torn s.domain (placement-within w n s at)) (not_not _)
+  group_told n s at groups.Exclusive = rw (keeps.flags.torn s.domain (placement-within w n s at)) (not_not _)
+  group_told n s at groups.Teardown = rw (keeps.flags.torn s.domain (placement-within w n s at)) (not_not _)
 
   pub lives_told : (s : Spot) → lives w b s ≡ is_live w h s
   lives_told (Site n k) = rw (keeps.rows.suspended n k) refl
@@ -180,7 +172,7 @@ module _ (w : Parts) (valid : IsValid w) (h : List Event) (legal : IsLegal w h) 
     where
       of_placement : (o : Option Placement) → placement w n ≡ o → option_map_or (λ (s : Placement). if is_teardown s.branch.group then row b.waiting s.domain else []) o [] ≡ option_map_or (λ (s : Placement). if is_teardown s.branch.group then waiting w h s.domain else []) o []
       of_placement None at = refl
-      of_placement (Some s) at = rw (keeps.rows.waiting s.domain (arbiter_within w valid n s at)) refl
+      of_placement (Some s) at = rw (keeps.rows.waiting s.domain (placement-within w n s at)) refl
 
   -- the placement of a task that fired
   pub with_placement : (t : TaskId) (f : Firing) → firing_named h t ≡ Some f → (s : Placement) × (placement w (branch_of f.spot) ≡ Some s) × (placement_of w h t ≡ Some s)
@@ -191,7 +183,7 @@ module _ (w : Parts) (valid : IsValid w) (h : List Event) (legal : IsLegal w h) 
   may_admit_card_told : (t : TaskId) (f : Firing) → firing_named h t ≡ Some f → may_admit_card b (card_of w h t f) ≡ may_admit w h t
   may_admit_card_told t f is =
       let found = with_placement t f is in
-      rw (found.1, found.2) (of_test (is_concurrent found.0.branch.group) found.0.domain (arbiter_within w valid (branch_of f.spot) found.0 found.1))
+      rw (found.1, found.2) (of_test (is_concurrent found.0.branch.group) found.0.domain (placement-within w (branch_of f.spot) found.0 found.1))
     where
       of_test : (c : Bool) (d : ℕ) → d < length w.arbiters → (if c then number b.alone d == 0 else number b.admitted d == 0) ≡ (if c then list_all (is_concurrent_task w h) (admitted w h d) else is_none_of (admitted w h d))
       of_test true d low = rw (keeps.counts.alone d low) (none_fail (is_concurrent_task w h) (admitted w h d))

@@ -1,11 +1,11 @@
 -- Each allowed event keeps who waits in each domain.
-use Rattle.std.proofs.Common.{◌≡◌, ℕ, ◌<◌, Bool, true, false, ◌&&◌, List, [], ◌∷◌, ◌++◌, length, map, Some, refl, sym, ap, ◌∙◌, append-nil, append_assoc, arith, subst}
+use Rattle.std.proofs.Common.{◌≡◌, ℕ, ◌<◌, Bool, true, false, ◌&&◌, List, [], ◌∷◌, ◌++◌, length, map, Some, refl, sym, ap, ◌∙◌, append-nil, append_assoc, arith}
 use Rattle.std.specs.Prelude.{◌==◌, if◌then◌else◌}
 use Rattle.std.specs.Option.{option_map_or}
 use Rattle.ccr_base.specs.declared.names.TaskId.{TaskId}
 use Rattle.ccr_base.specs.declared.names.MsgId.{MsgId}
 use Rattle.ccr_base.specs.declared.names.Spot.TheVariants.{Branch, Site}
-use Rattle.ccr_base.specs.Names.{same_task, has_task, without}
+use Rattle.ccr_base.specs.Names.{has_task, without}
 use Rattle.ccr_wiring.specs.declared.parts.Parts.{Parts}
 use Rattle.ccr_wiring.specs.Groups.{may_have}
 use Rattle.ccr_wiring.specs.Valid.{IsValid}
@@ -21,17 +21,16 @@ use Rattle.ccr_model.specs.Rules.{is_first, is_oldest_waiting}
 use Rattle.ccr_model.specs.Legal.{IsAllowed, IsLegal}
 use Rattle.ccr_model.proofs.Allowing.{OneName-legal}
 use Rattle.ccr_model.proofs.ExclusiveRootsAreAlone.{ever_admitted_fired}
-use Rattle.ccr_base.proofs.Booleans.{refuted, no_both, or_left, or_right, same_number, eq-self}
+use Rattle.ccr_base.proofs.Booleans.{refuted, no_both, same_number}
 use Rattle.ccr_model.proofs.Cutting.{fired_by-append, cut_fired, no_teardown_outside}
 use Rattle.ccr_model.proofs.FiredTasks.{IsFired, fired_has, placement_fired}
 use Rattle.ccr_model.proofs.AllowedFirings.{FiresSo-allowed, WaitingFacts-waiting}
 use Rattle.ccr_base.proofs.Options.{some_of}
 use Rattle.ccr_model.proofs.PostNames.{refused_not}
 use Rattle.ccr_model.proofs.OneMoreEvent.{ever_admitted-push, cut-push}
-use Rattle.ccr_base.proofs.SameNames.{same_task-self}
 use Rattle.ccr_model.proofs.TasksLeft.{without_both}
-use Rattle.ccr_model.proofs.TaskLists.{first_rest, has_oldest, not_more, without-append, without_none, none_gone}
-use Rattle.ccr_model.proofs.TasksOnce.{waiting_once, waits_in_one}
+use Rattle.ccr_model.proofs.TaskLists.{first_rest, has_oldest, not_more, without-append, none_gone, all_gone}
+use Rattle.ccr_model.proofs.TasksOnce.{waiting_once, waiting_apart, waits_elsewhere}
 use Rattle.ccr_model.proofs.WaitingTasks.{waiting-admit}
 use Rattle.ccr_ledger.specs.Rows.{row, with_row}
 use Rattle.ccr_ledger.specs.Books.{Books}
@@ -46,16 +45,6 @@ use Rattle.ccr_ledger.proofs.TaskCards.{CardFacts-fired, same_placement}
 -- the rows say who waits
 abbrev pub SaysWaiting : Parts → List Event → List (List TaskId) → Type 0
 SaysWaiting w h rows = (i : ℕ) → i < length w.arbiters → row rows i ≡ waiting w h i
-
-waits_elsewhere : (w : Parts) (h : List Event) (i j : ℕ) (t : TaskId) → IsLegal w h → has_task (waiting w h i) t ≡ true → (i == j) ≡ false → has_task (waiting w h j) t ≡ false
-waits_elsewhere w h i j t legal here other = refuted (has_task (waiting w h j) t) (λ there. no_both (subst (λ k. (i == k) ≡ true) (waits_in_one w h i j t legal here there) (eq-self i)) other)
-
--- all go
-all_gone : (ts gone : List TaskId) → ((u : TaskId) → has_task ts u ≡ true → has_task gone u ≡ true) → without ts gone ≡ []
-all_gone [] gone all = refl
-all_gone (x ∷ ts) gone all =
-    let here = all x (or_left (same_task x x) (has_task ts x) (same_task-self x)) in
-    rw here (all_gone ts gone (λ u among. all u (or_right (same_task u x) (has_task ts u) among)))
 
 -- an event that neither fires at a branch, admits nor cuts leaves those that wait
 waiting-other : (w : Parts) (h : List Event) (e : Event) (i : ℕ) → fired_by w (is_placement_in i) (e ∷ []) ≡ [] → admitted_by e ≡ [] → cut (e ∷ []) ≡ [] → waiting w (h ++ e ∷ []) i ≡ waiting w h i
@@ -106,7 +95,7 @@ module _ (w : Parts) (h : List Event) (t : TaskId) (n : ℕ) (ms : List MsgId) (
     where
       of_place : (b : Bool) → (s.domain == i) ≡ b → (if b then [] else row rows i) ≡ without (waiting w h i) (waiting w h s.domain)
       of_place true is = let one : s.domain ≡ i = same_number s.domain i is in rw one (sym (all_gone (waiting w h i) (waiting w h i) (λ u among. among)))
-      of_place false is = known ∙ sym (without_none (waiting w h i) (waiting w h s.domain) (λ u here. refuted (has_task (waiting w h s.domain) u) (λ there. no_both here (waits_elsewhere w h s.domain i u legal there is))))
+      of_place false is = known ∙ sym (waiting_apart w h s.domain i legal is)
 
       of_test : (b : Bool) → is_teardown s.branch.group ≡ b → row (if b then with_row rows s.domain [] else rows) i ≡ without (waiting w h i) (if b then waiting w h s.domain else [])
       of_test true e = row-with_row rows s.domain i [] low ∙ of_place (s.domain == i) refl

@@ -23,22 +23,12 @@ use Rattle.ccr_model.proofs.Allowing.{OneName}
 use Rattle.ccr_model.proofs.OneMoreEvent.{firings-push}
 use Rattle.ccr_base.proofs.Options.{some_of}
 use Rattle.ccr_model.proofs.Members.{Among}
-use Rattle.ccr_base.proofs.SameNames.{same_task-is, same_task-self, same_task-sym}
+use Rattle.ccr_base.proofs.SameNames.{same_task-is, same_task-self, same_task-sym, same_lists-is}
 use Rattle.ccr_model.proofs.TasksLeft.{of_without, out_left}
 use Rattle.ccr_base.proofs.Booleans.{not_true, both, neither, or_left, or_right, refuted, no_both}
 use Rattle.ccr_model.proofs.FiredTasks.{IsFired, find_last, fired_has}
 use Rattle.ccr_model.specs.Interleaves.{is_placement_in}
 use Rattle.ccr_model.proofs.TaskLists.{to_without, not_more, out_right}
-
-same_tasks-is : (ts us : List TaskId) → same_lists same_task ts us ≡ true → ts ≡ us
-same_tasks-is [] [] is = refl
-same_tasks-is [] (u ∷ us) is = absurd (cc)
-same_tasks-is (t ∷ ts) [] is = absurd (cc)
-same_tasks-is (t ∷ ts) (u ∷ us) is =
-    let parts = both (same_task t u) (same_lists same_task ts us) is in
-    let here : t ≡ u = same_task-is t u parts.0 in
-    let rest : ts ≡ us = same_tasks-is ts us parts.1 in
-    cc
 
 -- what an allowed firing says, rule by rule
 pub record FiresSo (w : Parts) (h : List Event) (t : TaskId) (s : Spot) (ms : List MsgId) (cs : List TaskId) : Type 0 where
@@ -56,7 +46,7 @@ FiresSo-allowed w h t s ms cs allowed =
     record {
       new_name = not_true (has_task (fired h) t) (both (not (has_task (fired h) t)) (nat_le t.actor 32) a.0).0;
       live = b.0;
-      cuts = same_tasks-is cs (cuts_at w h s) e.0;
+      cuts = same_lists-is same_task same_task-is cs (cuts_at w h s) e.0;
     }
 
 -- who is found among the firings is among their tasks
@@ -173,3 +163,7 @@ waits_outside w h i t waits =
     let parts = both (is_interleave branch.placement.kind) (branch.placement.domain == i) branch.passes in
     let needs : needs_no_admission w waits.firing.spot ≡ false = rw (branch.is_branch, branch.is_placement, parts.0) refl in
     rw (needs, waits.not_ever_admitted) refl
+
+-- an event that fires nobody leaves each firing
+pub firing-same : (h : List Event) (e : Event) (u : TaskId) → firing_of e ≡ [] → firing_named (h ++ e ∷ []) u ≡ firing_named h u
+firing-same h e u other = rw (firings-other h e other) refl

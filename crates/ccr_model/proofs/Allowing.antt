@@ -23,7 +23,7 @@ use Rattle.ccr_model.specs.declared.history.Event.{Event}
 use Rattle.ccr_model.specs.declared.history.Event.TheVariants.{Post, Fire, Admit, Put, Start, End}
 use Rattle.ccr_model.specs.declared.history.EndHow.TheVariants as ends
 use Rattle.ccr_model.specs.declared.rule.Rule.{Rule}
-use Rattle.ccr_base.specs.Names.{same_task, has_task, same_lists, same_options, same_message, without}
+use Rattle.ccr_base.specs.Names.{same_task, has_task, same_options, same_message, without}
 use Rattle.ccr_model.specs.Posts.{posts_of_poster, posts_of_task, posts_of_tasks, held}
 use Rattle.ccr_wiring.specs.Wirings.{Placement, placement, spots, site_port, branch_of}
 use Rattle.ccr_model.specs.Firings.{Firing, firings, firing_of, firing_named, fired, started, ended}
@@ -37,23 +37,19 @@ use Rattle.ccr_model.specs.Order.{post_from, script_post, fire_at, fire_from, ne
 use Rattle.ccr_model.proofs.PostNames.{along, refused_not}
 use Rattle.ccr_model.proofs.Stable.{firing_named-append, firings-append}
 use Rattle.ccr_base.proofs.Options.{some_of, IfSome-or, some-below, none-above}
-use Rattle.ccr_model.proofs.Members.{Among, Among-last}
+use Rattle.ccr_model.proofs.Members.{Among, Among-last, find_passes}
 use Rattle.ccr_model.proofs.FirstNames.{length-names_of}
-use Rattle.ccr_base.proofs.SameNames.{same_task-self, same_message-self, same_value-self}
+use Rattle.ccr_base.proofs.SameNames.{same_task-self, same_message-self, same_value-self, same_lists-self}
 use Rattle.ccr_base.proofs.Booleans.{both, or_right, eq-self}
 use Rattle.ccr_model.proofs.FiredTasks.{find_last}
-
-same_list-self : {X : Type 0} (same : X → X → Bool) → ((x : X) → same x x ≡ true) → (xs : List X) → same_lists same xs xs ≡ true
-same_list-self same self [] = refl
-same_list-self same self (x ∷ xs) = grind (arith, self x, same_list-self same self xs)
 
 -- what passes isn't refused
 pub passed : (b : Bool) (rule : Rule) (o : Option Rule) → b ≡ true → o ≡ None → refused b rule o ≡ None
 passed b rule o is rest = rw (is, rest) refl
 
 -- Post of a script
-is_post-self : (i : MsgId) (s : Sent) → is_post (record { id = i; port = s.port; value = s.value; causes = s.causes }) s ≡ true
-is_post-self i s = rw (eq-self s.port, same_value-self s.value, same_list-self (λ c d. c == d) eq-self s.causes) refl
+pub is_post-self : (i : MsgId) (s : Sent) → is_post (record { id = i; port = s.port; value = s.value; causes = s.causes }) s ≡ true
+is_post-self i s = rw (eq-self s.port, same_value-self s.value, same_lists-self (λ c d. c == d) eq-self s.causes) refl
 
 script_allowed : (w : Parts) (h : List Event) (n : ℕ) (p : PosterPart) → slice_get w.posters n ≡ Some p → (o : Option Sent) → slice_get p.posts (posts_of_poster h n) ≡ o → IfSome (option_map (script_post n (posts_of_poster h n)) o) (IsAllowed w h)
 script_allowed w h n p at None is = tt
@@ -108,7 +104,7 @@ gather_selection total p q a b ms is = of_tests (nat_lt (length a + length b) to
         rw same (gather_is total a b (total - length b) total (omega arith))
 
 selection_allowed_of : (f : ℕ → List Msg) (p : Pattern) (ms : List Msg) → engine_selection_of f p ≡ Some ms → is_selection_of f p (names_of ms) ≡ true
-selection_allowed_of f (Slots slots) ms is = rw is (same_list-self same_message same_message-self (names_of ms))
+selection_allowed_of f (Slots slots) ms is = rw is (same_lists-self same_message same_message-self (names_of ms))
 selection_allowed_of f (Gather total p q) ms is = gather_selection total p q (f p) (f q) ms is
 
 oldest_selection : (xs ms : List Msg) → oldest xs ≡ Some ms → are_oldest xs (names_of ms) ≡ true
@@ -134,7 +130,7 @@ fire_allowed w c h s low = of_test (is_live w h s) (has_room w h s) refl refl (e
     of_test true true live room None is = tt
     of_test true true live room (Some ms) is =
         let new : is_new h (record { actor = c; attempt = next_attempt c (fired h) }) ≡ true = grind (arith, nat_tests, below_next c (next_attempt c (fired h)) (fired h)) in
-        passed _ _ _ new (passed _ _ _ live (passed _ _ _ (selection_allowed w h s ms is) (passed _ _ _ room (passed _ _ None (same_list-self same_task same_task-self (cuts_at w h s)) refl))))
+        passed _ _ _ new (passed _ _ _ live (passed _ _ _ (selection_allowed w h s ms is) (passed _ _ _ room (passed _ _ None (same_lists-self same_task same_task-self (cuts_at w h s)) refl))))
     of_test true false live room o is = tt
     of_test false b live room o is = tt
 
@@ -143,14 +139,6 @@ fires_allowed w c h [] low = tt
 fires_allowed w c h (s ∷ ss) low = IfSome-or (IsAllowed w h) _ _ (fire_allowed w c h s low) (fires_allowed w c h ss low)
 
 -- Put
-find_passes : {X : Type 0} (p : X → Bool) (xs : List X) (x : X) → find p xs ≡ Some x → p x ≡ true
-find_passes p [] x is = absurd (cc)
-find_passes p (y ∷ xs) x is = of_test (p y) refl is (find_passes p xs x)
-  where
-    of_test : (b : Bool) → p y ≡ b → (if b then Some y else find p xs) ≡ Some x → (find p xs ≡ Some x → p x ≡ true) → p x ≡ true
-    of_test true e at rest = let same : y ≡ x = cc in rw (← same) e
-    of_test false e at rest = rest at
-
 pub same_option-self : (o : Option TaskId) → same_options same_task o o ≡ true
 same_option-self None = refl
 same_option-self (Some t) = same_task-self t

@@ -43,7 +43,7 @@ some_selection slot ms = of_test (is_choosable slot ms) _
     of_test true x = refl
     of_test false x = refl
 
-some_selection_of_slots : (f : ℕ → List Msg) (slots : List Slot) → is_some (selection_of_slots f slots) ≡ list_all (λ (slot : Slot). is_choosable slot (f slot.port)) slots
+pub some_selection_of_slots : (f : ℕ → List Msg) (slots : List Slot) → is_some (selection_of_slots f slots) ≡ list_all (λ (slot : Slot). is_choosable slot (f slot.port)) slots
 some_selection_of_slots f [] = refl
 some_selection_of_slots f (s ∷ slots) = rw (is_some-joined, some_selection s (f s.port), some_selection_of_slots f slots) refl
 

@@ -1,5 +1,5 @@
 -- What a teardown's firing ends: branches of its Interleave fire no more, and the tasks that it cut go no further.
-use Rattle.std.proofs.Common.{◌≡◌, ℕ, Bool, true, false, ◌&&◌, ◌||◌, List, [], ◌∷◌, ◌++◌, map, Option, Some, None, refl, sym, arith, ap, ◌∙◌, subst, append-nil}
+use Rattle.std.proofs.Common.{◌≡◌, ℕ, Bool, true, false, ◌&&◌, ◌||◌, List, [], ◌∷◌, ◌++◌, map, Option, Some, None, refl, sym, arith, ap, ◌∙◌, subst, append-nil, filter}
 use Rattle.std.specs.Prelude.{◌==◌, if◌then◌else◌}
 use Rattle.std.specs.Option.{option_map_or}
 use Rattle.std.proofs.lemmas.Grind.{common_steps}
@@ -19,7 +19,7 @@ use Rattle.ccr_wiring.specs.Valid.{HasGroups}
 use Rattle.ccr_wiring.specs.Wirings.{Placement, placement}
 use Rattle.ccr_model.specs.declared.history.Event.{Event}
 use Rattle.ccr_model.specs.declared.history.Event.TheVariants.{Post, Fire, Admit, Put, Start, End}
-use Rattle.ccr_model.specs.Firings.{Firing, firing_named, cut, ever_admitted, admitted_by, put, put_by, started}
+use Rattle.ccr_model.specs.Firings.{Firing, firing_named, cut, ever_admitted, admitted_by, put, put_by, started, fired_where, firing_of, firings}
 use Rattle.ccr_model.specs.TaskData.{placement_of}
 use Rattle.ccr_model.specs.Tasks.{is_interleave, is_teardown, is_branch_where, fired_by, waiting}
 use Rattle.ccr_model.specs.Live.{is_live, is_live_in, is_none_of}
@@ -28,7 +28,7 @@ use Rattle.ccr_model.specs.Legal.{IsAllowed, IsLegal}
 use Rattle.ccr_model.proofs.PostNames.{refused_not}
 use Rattle.ccr_model.proofs.Stable.{firing_named-append}
 use Rattle.ccr_model.proofs.Allowing.{OneName, OneName-legal}
-use Rattle.ccr_model.proofs.OneMoreEvent.{put-push, ever_admitted-push, cut-push}
+use Rattle.ccr_model.proofs.OneMoreEvent.{put-push, ever_admitted-push, cut-push, firings-push}
 use Rattle.ccr_model.proofs.LegalParts.{along_legal, onward, Parted-legal}
 use Rattle.ccr_base.proofs.Options.{some_of}
 use Rattle.ccr_base.proofs.Booleans.{both, refuted, no_both, same_number}
@@ -39,8 +39,21 @@ use Rattle.ccr_model.proofs.WhoWasPut.{ArePlaced, ArePlaced-legal, PutFacts, Put
 use Rattle.ccr_model.proofs.AllowedFirings.{FiresSo-allowed, BranchFacts-where, WaitingFacts, WaitingFacts-waiting, fired_by_has, firing_named-new, waits_outside, live_at}
 
 -- an event later, a list longer
+pub fired_where-append : (test : Firing → Bool) (h es : List Event) → fired_where test (h ++ es) ≡ fired_where test h ++ fired_where test es
+fired_where-append test h es = grind (arith, common_steps)
+
 pub fired_by-append : (w : Parts) (test : Placement → Bool) (h es : List Event) → fired_by w test (h ++ es) ≡ fired_by w test h ++ fired_by w test es
-fired_by-append w test h es = grind (arith, common_steps)
+fired_by-append w test h es = fired_where-append (λ (f : Firing). is_branch_where w test f.spot) h es
+
+pub fired_by-fire : (w : Parts) (test : Placement → Bool) (h : List Event) (t : TaskId) (spot : Spot) (ms : List MsgId) (cs : List TaskId) → fired_by w test (h ++ Fire t spot ms cs ∷ []) ≡ fired_by w test h ++ (if is_branch_where w test spot then t ∷ [] else [])
+fired_by-fire w test h t spot ms cs = fired_by-append w test h (Fire t spot ms cs ∷ []) ∙ ap (λ ts. fired_by w test h ++ ts) (by (is_branch_where w test spot))
+  where
+    by : (b : Bool) → map (λ (f : Firing). f.task) (if b then (record { task = t; spot = spot; messages = ms; cuts = cs }) ∷ [] else []) ≡ (if b then t ∷ [] else [])
+    by true = refl
+    by false = refl
+
+pub fired_by-same : (w : Parts) (test : Placement → Bool) (h : List Event) (e : Event) → firing_of e ≡ [] → fired_by w test (h ++ e ∷ []) ≡ fired_by w test h
+fired_by-same w test h e none = ap (λ fs. map (λ (f : Firing). f.task) (filter (λ (f : Firing). is_branch_where w test f.spot) fs)) (firings-push h e ∙ ap (λ fs. firings h ++ fs) none ∙ append-nil (firings h))
 
 -- a branch of an Interleave may fire while no teardown of it fired
 ends_live : (w : Parts) (h : List Event) (b i : ℕ) (k : Kind) (g : Group) → may_have k g ≡ true → is_interleave k ≡ true → is_live_in w h b i g ≡ true → is_none_of (fired_by w (λ s. (s.domain == i) && is_teardown s.branch.group) h) ≡ true

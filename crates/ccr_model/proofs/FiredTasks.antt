@@ -1,5 +1,5 @@
 -- Tasks that fired, and what stays of them whatever events come.
-use Rattle.std.proofs.Common.{◌≡◌, Bool, true, false, List, [], ◌∷◌, ◌++◌, ◌||◌, map, Some, refl, arith}
+use Rattle.std.proofs.Common.{◌≡◌, Bool, true, false, List, [], ◌∷◌, ◌++◌, ◌||◌, map, Some, refl, arith, ℕ}
 use Rattle.std.specs.Prelude.{if◌then◌else◌, find}
 use Rattle.std.proofs.lemmas.Bool.Decides.{nat_tests}
 use Rattle.ccr_base.specs.declared.names.TaskId.{TaskId}
@@ -11,6 +11,7 @@ use Rattle.ccr_model.specs.Firings.{Firing, firings, fired, firing_named, spot_o
 use Rattle.ccr_model.specs.Sites.{root_of}
 use Rattle.ccr_model.specs.TaskData.{placement_of}
 use Rattle.ccr_model.proofs.Stable.{firing_named-append, root_at-append}
+use Rattle.ccr_model.specs.Tasks.{is_for_queue}
 use Rattle.ccr_base.proofs.Options.{some_then, some_map}
 use Rattle.ccr_base.proofs.SameNames.{same_task-is, same_task-self}
 
@@ -59,3 +60,7 @@ placement_stays w h es t fired = rw (firing_named-append h es t fired.0 fired.1,
 -- the root of a task that fired stays
 pub root_stays : (h es : List Event) (t : TaskId) → IsFired h t → root_of (h ++ es) t ≡ root_of h t
 root_stays h es t fired = rw (firing_named-append h es t fired.0 fired.1, fired.1, root_at-append h es (branch_of fired.0.spot) (segment_of fired.0.spot) t fired.0 fired.1) refl
+
+-- a task that fired stays one of its queue
+pub for_queue_stays : (w : Parts) (h es : List Event) (q : ℕ) (t : TaskId) → IsFired h t → is_for_queue w (h ++ es) q t ≡ is_for_queue w h q t
+for_queue_stays w h es q t fired = rw (placement_stays w h es t fired) refl

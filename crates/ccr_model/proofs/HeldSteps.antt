@@ -1,5 +1,5 @@
 -- What a port holds after one more event.
-use Rattle.std.proofs.Common.{◌≡◌, ℕ, false, not, List, [], ◌∷◌, ◌++◌, filter, refl, arith}
+use Rattle.std.proofs.Common.{◌≡◌, ℕ, false, not, List, [], ◌∷◌, ◌++◌, filter, arith}
 use Rattle.std.specs.Prelude.{◌==◌, if◌then◌else◌, Option}
 use Rattle.std.proofs.lemmas.Grind.{common_steps}
 use Rattle.ccr_base.specs.declared.names.TaskId.{TaskId}
@@ -11,17 +11,13 @@ use Rattle.ccr_model.specs.declared.history.Event.TheVariants.{Post, Fire, Admit
 use Rattle.ccr_model.specs.declared.history.EndHow.{EndHow}
 use Rattle.ccr_base.specs.Names.{has_message}
 use Rattle.ccr_model.specs.Posts.{held, taken, posted}
+use Rattle.ccr_model.proofs.MessageNames.{left_both}
 
 pub held-post : (h : List Event) (m : Msg) (p : ℕ) → has_message (taken h) m.id ≡ false → held (h ++ Post m ∷ []) p ≡ held h p ++ (if m.port == p then m ∷ [] else [])
 held-post h m p fresh = grind (arith, common_steps)
 
--- what two lists of names leave
-filter_both : (gone more : List MsgId) (ms : List Msg) → filter (λ m. not (has_message (gone ++ more) m.id)) ms ≡ filter (λ m. not (has_message more m.id)) (filter (λ m. not (has_message gone m.id)) ms)
-filter_both gone more [] = refl
-filter_both gone more (m ∷ ms) = grind (arith, common_steps, filter_both gone more ms)
-
 pub held-fire : (h : List Event) (t : TaskId) (s : Spot) (ms : List MsgId) (cs : List TaskId) (p : ℕ) → held (h ++ Fire t s ms cs ∷ []) p ≡ filter (λ m. not (has_message ms m.id)) (held h p)
-held-fire h t s ms cs p = grind (arith, common_steps, filter_both (taken h) ms (posted h p))
+held-fire h t s ms cs p = grind (arith, common_steps, left_both (taken h) ms (posted h p))
 
 pub held-admit : (h : List Event) (t : TaskId) (p : ℕ) → held (h ++ Admit t ∷ []) p ≡ held h p
 held-admit h t p = grind (arith, common_steps)

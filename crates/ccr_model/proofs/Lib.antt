@@ -19,8 +19,6 @@ pub mod PlacementDomains
 pub mod Allowing
 pub mod LegalIsCovered
 pub mod ExclusiveRootsAreAlone
-pub mod Segments
-pub mod ValidHandlers
 pub mod PlayPast
 pub mod FirstNames
 pub mod CanFire
@@ -41,3 +39,6 @@ pub mod NamesLeft
 pub mod PostedNames
 pub mod RunningTasks
 pub mod WaitingTasks
+pub mod ShedEnds
+pub mod PostCounts
+pub mod NoPosts

@@ -1,5 +1,5 @@
 -- Who is a member of a list.
-use Rattle.std.proofs.Common.{◌≡◌, ℕ, zero, suc, Bool, true, false, ◌⊎◌, inl, inr, List, [], ◌∷◌, ◌++◌, map, filter, take, Some, refl, sym, ap, ◌∙◌, arith}
+use Rattle.std.proofs.Common.{◌≡◌, ℕ, zero, suc, Bool, true, false, ◌⊎◌, inl, inr, List, [], ◌∷◌, ◌++◌, map, filter, take, Some, refl, sym, ap, ◌∙◌, arith, length, ◌≤◌}
 use Rattle.std.specs.Prelude.{if◌then◌else◌, find}
 use Rattle.std.specs.List.{Contains, slice_get, list_all}
 
@@ -85,3 +85,28 @@ Contains-among (y ∷ xs) x (inr more) = let rest = Contains-among xs x more in 
 pub all_from : {X : Type 0} (p : X → Bool) (xs : List X) → ((x : X) → Among x xs → p x ≡ true) → list_all p xs ≡ true
 all_from p [] each = refl
 all_from p (x ∷ xs) each = rw (each x (inl refl), all_from p xs (λ y is. each y (inr is))) refl
+
+-- who is found passes
+pub find_passes : {X : Type 0} (p : X → Bool) (xs : List X) (x : X) → find p xs ≡ Some x → p x ≡ true
+find_passes p [] x is = absurd (cc)
+find_passes p (y ∷ xs) x is = of_test (p y) refl is (find_passes p xs x)
+  where
+    of_test : (b : Bool) → p y ≡ b → (if b then Some y else find p xs) ≡ Some x → (find p xs ≡ Some x → p x ≡ true) → p x ≡ true
+    of_test true e at rest = let same : y ≡ x = cc in rw (← same) e
+    of_test false e at rest = rest at
+
+-- what is among what is made of all is made of a member
+pub Among-mapped : {X Y : Type 0} (f : X → Y) (xs : List X) (y : Y) → Among y (map f xs) → (x : X) × Among x xs × (f x ≡ y)
+Among-mapped f [] y is = absurd is
+Among-mapped f (x ∷ xs) y (inl e) = (x, inl refl, sym e)
+Among-mapped f (x ∷ xs) y (inr is) = let found = Among-mapped f xs y is in (found.0, inr found.1, found.2)
+
+-- of those that pass there is one, where a member passes
+pub some_kept : {X : Type 0} (p : X → Bool) (xs : List X) (x : X) → Among x xs → p x ≡ true → 1 ≤ length (filter p xs)
+some_kept p [] x is passes = absurd is
+some_kept p (y ∷ xs) x (inl e) passes = let here : p y ≡ true = ap p (sym e) ∙ passes in rw here (omega arith)
+some_kept p (y ∷ xs) x (inr more) passes = by_test (p y) (some_kept p xs x more passes)
+  where
+    by_test : (b : Bool) → 1 ≤ length (filter p xs) → 1 ≤ length (if b then y ∷ filter p xs else filter p xs)
+    by_test true rest = omega arith
+    by_test false rest = rest

@@ -70,7 +70,7 @@ sent_more : (name : MsgId) (ms : List Msg) (m : Msg) → sent_by name ms ≤ sen
 sent_more (Script a k) ms m = grind (arith, common_steps)
 sent_more (Task t k) ms m = grind (arith, common_steps)
 
-sent_own : (ms : List Msg) (m : Msg) (name : MsgId) → m.id ≡ name → sent_by name (ms ++ m ∷ []) ≡ sent_by name ms + 1
+pub sent_own : (ms : List Msg) (m : Msg) (name : MsgId) → m.id ≡ name → sent_by name (ms ++ m ∷ []) ≡ sent_by name ms + 1
 sent_own ms m (Script a k) is = grind (arith, nat_tests, common_steps)
 sent_own ms m (Task t k) is = grind (arith, nat_tests, common_steps)
 

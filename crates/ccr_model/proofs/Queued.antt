@@ -1,8 +1,10 @@
 -- Who is queued stands once, and stays as the events don't touch him.
-use Rattle.std.proofs.Common.{◌≡◌, ℕ, true, false, not, List, [], ◌∷◌, ◌++◌, refl, ap, ◌∙◌, append-nil}
+use Rattle.std.proofs.Common.{◌≡◌, ℕ, true, false, not, List, [], ◌∷◌, ◌++◌, refl, ap, ◌∙◌, append-nil, Bool, Option, Some, None, subst}
 use Rattle.std.proofs.lemmas.List.Elements.{filter_agree}
+use Rattle.std.specs.Option.{option_to_list}
 use Rattle.ccr_base.specs.declared.names.TaskId.{TaskId}
-use Rattle.ccr_base.specs.Names.{has_task, without}
+use Rattle.ccr_base.specs.Names.{has_task, without, same_task}
+use Rattle.ccr_base.proofs.SameNames.{same_task-is}
 use Rattle.ccr_wiring.specs.declared.parts.Parts.{Parts}
 use Rattle.ccr_model.specs.declared.history.Event.{Event}
 use Rattle.ccr_model.specs.Consequences.{are_distinct_tasks}
@@ -12,7 +14,7 @@ use Rattle.ccr_model.specs.Tasks.{is_for_queue, queued}
 use Rattle.ccr_model.proofs.FiredTasks.{fired_has}
 use Rattle.ccr_model.proofs.AllowedFirings.{firings-other}
 use Rattle.ccr_model.proofs.OneMoreEvent.{put-push, started-push, dropped-push}
-use Rattle.ccr_model.proofs.TaskLists.{not_within}
+use Rattle.ccr_model.proofs.TaskLists.{not_within, not_more}
 use Rattle.ccr_model.proofs.WhoWasPut.{ArePlaced-legal}
 use Rattle.ccr_model.proofs.TasksLeft.{distinct-filter}
 
@@ -31,3 +33,19 @@ queued-other w h q e fires puts starts drops =
 -- a new task wasn't put
 pub new_unput : (w : Parts) (h : List Event) (t : TaskId) → IsLegal w h → has_task (fired h) t ≡ false → has_task (put h) t ≡ false
 new_unput w h t legal new = not_within (put h) (fired h) t (λ is. fired_has h t ((ArePlaced-legal w h legal).all_fired t is)) new
+
+-- a task that wasn't put neither started nor was dropped, and isn't the one that is dropped
+pub put_fresh : (w : Parts) (h : List Event) (t : TaskId) (d : Option TaskId) → IsLegal w h → has_task (put h) t ≡ false → ((x : TaskId) → d ≡ Some x → has_task (put h) x ≡ true) → has_task (started h ++ (dropped h ++ option_to_list d)) t ≡ false
+put_fresh w h t d legal new known =
+    let lists = (ArePlaced-legal w h legal).lists in
+    let unstarted = not_within (started h) (put h) t (lists.put_started t) new in
+    let undropped = not_within (dropped h) (put h) t (lists.put_dropped t) new in
+    not_more (started h) (dropped h ++ option_to_list d) t unstarted (not_more (dropped h) (option_to_list d) t undropped (other d known))
+  where
+    other : (o : Option TaskId) → ((x : TaskId) → o ≡ Some x → has_task (put h) x ≡ true) → has_task (option_to_list o) t ≡ false
+    other None is = refl
+    other (Some x) is = of_test (same_task t x) refl
+      where
+        of_test : (b : Bool) → same_task t x ≡ b → has_task (x ∷ []) t ≡ false
+        of_test false e = rw e refl
+        of_test true e = absurd (let there = is x refl in let same : t ≡ x = same_task-is t x e in let out : has_task (put h) x ≡ false = subst (λ u. has_task (put h) u ≡ false) same new in cc)

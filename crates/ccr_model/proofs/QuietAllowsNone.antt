@@ -74,7 +74,7 @@ branch_among w n k i [] s e is = absurd (cc)
 branch_among w n zero i (r ∷ ss) s e is = let same : i ≡ n = omega arith in inl (ap (λ j. Branch j) same)
 branch_among w n (suc k) i (r ∷ ss) s e is = inr (Among-right (Branch i) (sites_from n 0 (awaited (actions_of w r.branch.handler))) (spots_from w (n + 1) ss) (branch_among w (n + 1) k i ss s (omega arith) is))
 
-site_among : (w : Parts) (n k i j port : ℕ) (ss : List Placement) (s : Placement) → n + k ≡ i → slice_get ss k ≡ Some s → slice_get (awaited (actions_of w s.branch.handler)) j ≡ Some port → Among (Site i j) (spots_from w n ss)
+pub site_among : (w : Parts) (n k i j port : ℕ) (ss : List Placement) (s : Placement) → n + k ≡ i → slice_get ss k ≡ Some s → slice_get (awaited (actions_of w s.branch.handler)) j ≡ Some port → Among (Site i j) (spots_from w n ss)
 site_among w n k i j port [] s e is at = absurd (cc)
 site_among w n zero i j port (r ∷ ss) s e is at =
     let same : r ≡ s = cc in

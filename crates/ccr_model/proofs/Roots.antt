@@ -2,6 +2,7 @@
 use Rattle.std.proofs.Common.{◌≡◌, ℕ, suc, Bool, true, false, not, ◌&&◌, ◌||◌, List, [], ◌∷◌, ◌++◌, Some, ◌⊎◌, inl, inr, refl, sym, ap, ◌∙◌, subst}
 use Rattle.std.specs.Prelude.{◌==◌}
 use Rattle.std.specs.Option.{option_map_or}
+use Rattle.std.specs.List.{list_any}
 use Rattle.ccr_base.specs.declared.names.TaskId.{TaskId}
 use Rattle.ccr_base.specs.declared.names.MsgId.{MsgId}
 use Rattle.ccr_base.specs.declared.names.Spot.{Spot}
@@ -24,14 +25,14 @@ use Rattle.ccr_model.proofs.LegalParts.{along_legal}
 use Rattle.ccr_base.proofs.Options.{some_of}
 use Rattle.ccr_base.proofs.SameNames.{same_task-is, same_task-self}
 use Rattle.ccr_model.proofs.TasksLeft.{of_filter}
-use Rattle.ccr_base.proofs.Booleans.{not_true, both, and_not, and_false, refuted, no_both}
+use Rattle.ccr_base.proofs.Booleans.{not_true, both, and_not, and_false, refuted, no_both, or_left, or_right}
 use Rattle.ccr_model.proofs.FiredTasks.{IsFired, root_stays}
 use Rattle.ccr_model.proofs.ExclusiveRootsAreAlone.{lasts_fired}
 use Rattle.ccr_model.specs.AtWork.{is_queued, is_suspended, is_at_work}
 use Rattle.ccr_model.specs.Interleaves.{is_placement_in, is_of_interleave}
 use Rattle.ccr_model.proofs.TaskLists.{to_filter, among_left, not_within, any_named}
 use Rattle.ccr_model.proofs.WhoWasPut.{ArePlaced-legal, QueuedFacts-queued, placement_by}
-use Rattle.ccr_model.proofs.AllowedFirings.{FiresSo-allowed, not_new, firing_named-new, before-new, firings-other}
+use Rattle.ccr_model.proofs.AllowedFirings.{FiresSo-allowed, not_new, firing_named-new, before-new, firing-same}
 use Rattle.ccr_model.proofs.Cutting.{CutFacts-legal}
 use Rattle.ccr_model.proofs.Ending.{AreEnded-legal, RunningFacts-running}
 use Rattle.ccr_model.proofs.Suspending.{ResumeFacts, ResumeFacts-allowed, is_gone_on, gone_stays, resumes_suspended, resumes_gone, suspended_yielded}
@@ -91,7 +92,7 @@ of_firing h x s ms cs t f new is = of_test (same_task x t) refl
         inr (one, cc)
 
 pub other_firing : (h : List Event) (e : Event) (t : TaskId) (f : Firing) → firing_of e ≡ [] → firing_named (h ++ e ∷ []) t ≡ Some f → firing_named h t ≡ Some f
-other_firing h e t f none is = rw (firings-other h e none) at is
+other_firing h e t f none is = sym (firing-same h e t none) ∙ is
 
 rooted_other : (h : List Event) (e : Event) → firing_of e ≡ [] → AreRooted h → AreRooted (h ++ e ∷ [])
 rooted_other h e none known t f is = rooted_stays h (e ∷ []) t f known (other_firing h e t f none is)
@@ -322,3 +323,15 @@ work_so w h legal t is = of_test (is_queued w h t) refl is
     of_test : (b : Bool) → is_queued w h t ≡ b → (b || has_task (running h) t) || is_suspended h t ≡ true → IsAtWork h t
     of_test true e at = let found = some_of (λ (s : Placement). has_task (queued w h s.branch.queue) t) (placement_of w h t) e in queued_works w h legal found.0.branch.queue t found.2
     of_test false e at = later (has_task (running h) t) refl at
+
+-- a root whose last segment ended is over
+pub over_so : (h : List Event) (t : TaskId) → root_of h t ≡ t → has_task (last_segments h) t ≡ true → is_over h t ≡ true
+over_so h t own is = any_root (last_segments h) is
+  where
+    any_root : (ts : List TaskId) → has_task ts t ≡ true → list_any (λ task. same_task (root_of h task) t) ts ≡ true
+    any_root [] is = absurd (cc)
+    any_root (u ∷ ts) is = by_test (same_task t u) refl is (any_root ts)
+      where
+        by_test : (b : Bool) → same_task t u ≡ b → b || has_task ts t ≡ true → (has_task ts t ≡ true → list_any (λ task. same_task (root_of h task) t) ts ≡ true) → same_task (root_of h u) t || list_any (λ task. same_task (root_of h task) t) ts ≡ true
+        by_test true e at rest = let one = same_task-is t u e in or_left _ _ (subst (λ x. same_task (root_of h x) t ≡ true) one (rw own (same_task-self t)))
+        by_test false e at rest = or_right _ _ (rest at)

@@ -1,9 +1,10 @@
 -- What is said of a task that fired stays so, whatever events come.
-use Rattle.std.proofs.Common.{◌≡◌, ℕ, zero, suc, Bool, true, false, List, [], ◌∷◌, ◌++◌, length, drop, filter, Option, Some, None, refl, arith, ap}
+use Rattle.std.proofs.Common.{◌≡◌, ℕ, zero, suc, Bool, true, false, List, [], ◌∷◌, ◌++◌, length, drop, filter, Option, Some, None, refl, arith, ap, ◌∙◌}
 use Rattle.std.specs.Prelude.{if◌then◌else◌, find}
 use Rattle.std.specs.List.{slice_get}
-use Rattle.std.specs.Option.{option_map_or, option_map}
-use Rattle.std.proofs.lemmas.Grind.{common_steps}
+use Rattle.std.specs.Option.{option_map_or, option_map, option_or}
+use Rattle.std.proofs.lemmas.Grind.{common_steps, flat_map-append}
+use Rattle.std.proofs.lemmas.List.Folds.{find-append}
 use Rattle.ccr_base.specs.declared.names.TaskId.{TaskId}
 use Rattle.ccr_base.specs.declared.names.Spot.{Spot}
 use Rattle.ccr_base.specs.declared.names.Spot.TheVariants.{Site}
@@ -12,13 +13,13 @@ use Rattle.ccr_model.specs.declared.history.Event.{Event}
 use Rattle.ccr_model.specs.declared.history.Event.TheVariants.{Post, Fire, Admit, Put, Start, End}
 use Rattle.ccr_base.specs.Names.{same_task, same_spot}
 use Rattle.ccr_wiring.specs.Wirings.{branch_of, segment_of, next_site}
-use Rattle.ccr_model.specs.Firings.{Firing, firings, fired, firing_named, yielded, fired_at}
+use Rattle.ccr_model.specs.Firings.{Firing, firings, fired, firing_named, yielded, fired_at, firing_of, spot_of}
 use Rattle.ccr_model.specs.Sites.{before, yields_at, resumed, root_at}
 use Rattle.ccr_model.specs.TaskData.{load_at, load_after, no_load, with_messages, messages_of, play_of}
 
-pub find-append : {X : Type 0} (p : X → Bool) (xs ys : List X) (x : X) → find p xs ≡ Some x → find p (xs ++ ys) ≡ Some x
-find-append p [] ys x is = absurd (cc)
-find-append p (y ∷ xs) ys x is = grind (arith, find-append p xs ys x)
+-- who is found is found among more
+pub find_stays : {X : Type 0} (p : X → Bool) (xs ys : List X) (x : X) → find p xs ≡ Some x → find p (xs ++ ys) ≡ Some x
+find_stays p xs ys x is = find-append p xs ys ∙ ap (λ o. option_or o (find p ys)) is
 
 pub firings-append : (h es : List Event) → firings (h ++ es) ≡ firings h ++ firings es
 firings-append h es = grind (arith, common_steps)
@@ -27,7 +28,7 @@ pub fired-append : (h es : List Event) → fired (h ++ es) ≡ fired h ++ fired 
 fired-append h es = grind (arith, common_steps)
 
 pub firing_named-append : (h es : List Event) (t : TaskId) (f : Firing) → firing_named h t ≡ Some f → firing_named (h ++ es) t ≡ Some f
-firing_named-append h es t f is = rw firings-append (find-append (λ (g : Firing). same_task g.task t) (firings h) (firings es) f is)
+firing_named-append h es t f is = rw firings-append (find_stays (λ (g : Firing). same_task g.task t) (firings h) (firings es) f is)
 
 pub before-append : (h es : List Event) (t : TaskId) (f : Firing) → firing_named h t ≡ Some f → before t (h ++ es) ≡ before t h
 before-append [] es t f is = absurd (cc)
@@ -95,3 +96,15 @@ load_at-append w h es b (suc k) t f is = rw (messages_of-append h es t f is, res
 -- the play of a task stays what it is
 pub play_of-append : (w : Parts) (h es : List Event) (t : TaskId) (f : Firing) → firing_named h t ≡ Some f → play_of w (h ++ es) t ≡ play_of w h t
 play_of-append w h es t f is = rw (firing_named-append h es t f is, is, load_at-append w h es (branch_of f.spot) (segment_of f.spot) t f is) refl
+
+-- what is made of the one or the other
+pub option_map-or : {X Y : Type 0} (f : X → Y) (o p : Option X) → option_map f (option_or o p) ≡ option_or (option_map f o) (option_map f p)
+option_map-or f None p = refl
+option_map-or f (Some x) p = refl
+
+-- where a task fired, in two histories behind one another
+pub spot_of-append : (events more : List Event) (task : TaskId) → spot_of (events ++ more) task ≡ option_or (spot_of events task) (spot_of more task)
+spot_of-append events more task =
+    ap (λ (fs : List Firing). option_map (λ (f : Firing). f.spot) (find (λ (f : Firing). same_task f.task task) fs)) (flat_map-append firing_of events more)
+    ∙ ap (λ (o : Option Firing). option_map (λ (f : Firing). f.spot) o) (find-append (λ (f : Firing). same_task f.task task) (firings events) (firings more))
+    ∙ option_map-or (λ (f : Firing). f.spot) (find (λ (f : Firing). same_task f.task task) (firings events)) (find (λ (f : Firing). same_task f.task task) (firings more))

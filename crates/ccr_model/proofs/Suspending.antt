@@ -4,6 +4,7 @@ use Rattle.std.specs.Prelude.{◌==◌, if◌then◌else◌, option_map}
 use Rattle.std.proofs.lemmas.Grind.{common_steps}
 use Rattle.std.proofs.lemmas.Bool.Decides.{nat_tests}
 use Rattle.std.proofs.lemmas.List.{drop-append-le}
+use Rattle.std.proofs.lemmas.List.Elements.{filter-append}
 use Rattle.ccr_base.specs.declared.names.TaskId.{TaskId}
 use Rattle.ccr_base.specs.declared.names.MsgId.{MsgId}
 use Rattle.ccr_base.specs.declared.names.Spot.{Spot}
@@ -24,12 +25,12 @@ use Rattle.ccr_model.proofs.Stable.{firing_named-append}
 use Rattle.ccr_model.proofs.OneMoreEvent.{yielded-push}
 use Rattle.ccr_model.proofs.LegalParts.{along_legal}
 use Rattle.ccr_base.proofs.Options.{some_of, some_map}
-use Rattle.ccr_base.proofs.SameNames.{same_task-self}
-use Rattle.ccr_model.proofs.TasksLeft.{has_task-append, of_filter, filter_on, distinct-filter}
+use Rattle.ccr_base.proofs.SameNames.{same_task-self, has_task-append}
+use Rattle.ccr_model.proofs.TasksLeft.{of_filter, filter_on, distinct-filter}
 use Rattle.ccr_base.proofs.Booleans.{not_true, both, or_left, or_right, and_not, same_number}
 use Rattle.ccr_model.proofs.FiredTasks.{IsFired, none_fired}
 use Rattle.ccr_model.specs.AtWork.{is_suspended}
-use Rattle.ccr_model.proofs.TaskLists.{filter_append, has_oldest, of_more, of_one, has_task-drop, distinct-drop, drop_one_more, drop_some}
+use Rattle.ccr_model.proofs.TaskLists.{has_oldest, of_more, of_one, has_task-drop, distinct-drop, drop_one_more, drop_some}
 use Rattle.ccr_model.proofs.WhoWasPut.{ArePlaced-legal}
 use Rattle.ccr_model.proofs.AllowedFirings.{FiresSo-allowed, firings-other}
 use Rattle.ccr_model.proofs.Ending.{AreEnded-legal, RunningFacts-allowed}
@@ -52,7 +53,7 @@ yields_stays h es site t fired = rw (firing_named-append h es t fired.0 fired.1,
 -- the tasks that ended as yield at the site, after one more event
 yielded_at-push : (w : Parts) (h : List Event) (e : Event) (site : Spot) → IsLegal w h → ((t : TaskId) → has_task (yielded_by e) t ≡ true → IsFired h t) → yielded_at (h ++ e ∷ []) site ≡ yielded_at h site ++ filter (yields_at h site) (yielded_by e)
 yielded_at-push w h e site legal fires =
-    rw (yielded-push h e, filter_append (yields_at (h ++ e ∷ []) site) (yielded h) (yielded_by e), filter_on (yields_at (h ++ e ∷ []) site) (yields_at h site) (yielded h) (λ u is. yields_stays h (e ∷ []) site u (yielded_fired w h legal u is)), filter_on (yields_at (h ++ e ∷ []) site) (yields_at h site) (yielded_by e) (λ u is. yields_stays h (e ∷ []) site u (fires u is))) refl
+    rw (yielded-push h e, filter-append (yields_at (h ++ e ∷ []) site) (yielded h) (yielded_by e), filter_on (yields_at (h ++ e ∷ []) site) (yields_at h site) (yielded h) (λ u is. yields_stays h (e ∷ []) site u (yielded_fired w h legal u is)), filter_on (yields_at (h ++ e ∷ []) site) (yields_at h site) (yielded_by e) (λ u is. yields_stays h (e ∷ []) site u (fires u is))) refl
 
 fired_at-other : (h : List Event) (e : Event) (site : Spot) → firing_of e ≡ [] → fired_at (h ++ e ∷ []) site ≡ fired_at h site
 fired_at-other h e site none = rw (firings-other h e none) refl
@@ -240,3 +241,10 @@ resumes_gone w h t b k ms cs legal facts =
     let yields : has_task (yielded (h ++ e ∷ [])) facts.resumes ≡ true = rw (yielded-push h e, append-nil (yielded h)) facts.yielded_so in
     let named = firing_named-append h (e ∷ []) facts.resumes facts.firing facts.is_firing in
     rw (yields, named, facts.same_branch, facts.same_segment, suspended-here w h t b k ms cs legal facts, out) refl
+
+-- an event that neither fires nor suspends leaves those that are suspended
+pub suspended-same : (w : Parts) (h : List Event) (e : Event) → IsLegal w h → firing_of e ≡ [] → yielded_by e ≡ [] → (b k : ℕ) → suspended (h ++ e ∷ []) (Site b k) ≡ suspended h (Site b k)
+suspended-same w h e legal calm none b k =
+    suspended-other w h e b k calm legal (λ t is. none_fired h t (subst (λ ts. has_task ts t ≡ true) none is))
+    ∙ ap (λ ts. suspended h (Site b k) ++ filter (yields_at h (Site b k)) ts) none
+    ∙ append-nil (suspended h (Site b k))

@@ -1,5 +1,5 @@
 -- At most one firing names a message, and once.
-use Rattle.std.proofs.Common.{◌≡◌, ℕ, zero, suc, ◌+◌, ◌<◌, ◌≤◌, Bool, true, false, not, ◌&&◌, ◌||◌, List, [], ◌∷◌, ◌++◌, length, take, filter, Option, Some, None, refl, arith, subst, append-nil}
+use Rattle.std.proofs.Common.{◌≡◌, ℕ, zero, suc, ◌+◌, ◌<◌, ◌≤◌, Bool, true, false, not, ◌&&◌, ◌||◌, List, [], ◌∷◌, ◌++◌, length, take, filter, Option, Some, None, refl, arith, subst, append-nil, ap}
 use Rattle.std.specs.Prelude.{◌==◌}
 use Rattle.std.specs.Option.{option_map_or}
 use Rattle.std.proofs.lemmas.Grind.{common_steps}
@@ -28,6 +28,7 @@ use Rattle.ccr_model.proofs.PostNames.{times, along, refused_not, AreNamed, name
 use Rattle.ccr_base.proofs.SameNames.{same_message-is}
 use Rattle.ccr_base.proofs.Booleans.{both}
 use Rattle.ccr_base.specs.Lists.{has_number, are_apart}
+use Rattle.ccr_base.proofs.Filters.{none_pass}
 
 -- how often the name stands in the list of names
 abbrev pub times_named : MsgId → List MsgId → ℕ
@@ -162,8 +163,7 @@ taken_none name gone (m ∷ ms) some = one_more (has_message gone m.id) (same_me
     one_more false false is same rest = rest (grind (arith, is, same, some))
 
 pub named_none : (name : MsgId) (gone : List MsgId) → has_message gone name ≡ false → times_named name gone ≡ 0
-named_none name [] is = grind arith
-named_none name (n ∷ gone) is = grind (arith, named_none name gone)
+named_none name gone is = ap length (none_pass (same_message name) gone is)
 
 pub named-append : (name : MsgId) (xs ys : List MsgId) → times_named name (xs ++ ys) ≡ times_named name xs + times_named name ys
 named-append name [] ys = grind arith

@@ -1,16 +1,21 @@
 -- Over plain lists of tasks: who stands in a list, in part of it, and in two lists.
-use Rattle.std.proofs.Common.{◌≡◌, ℕ, zero, suc, ◌<◌, ◌≤◌, Bool, true, false, not, ◌||◌, List, [], ◌∷◌, ◌++◌, length, drop, filter, refl, sym, arith, ap, ◌∙◌, subst}
-use Rattle.std.specs.List.{list_any, list_all}
+use Rattle.std.proofs.Common.{◌≡◌, ℕ, zero, suc, ◌<◌, ◌≤◌, Bool, true, false, not, ◌||◌, List, [], ◌∷◌, ◌++◌, length, drop, filter, refl, sym, arith, ap, ◌∙◌, subst, Some, inl, inr, take, map}
+use Rattle.std.specs.List.{list_any, list_all, slice_get}
 use Rattle.std.proofs.lemmas.Grind.{common_steps}
+use Rattle.std.proofs.lemmas.Bool.Decides.{nat_tests}
+use Rattle.std.proofs.lemmas.List.{take-append-drop}
 use Rattle.ccr_base.specs.declared.names.TaskId.{TaskId}
 use Rattle.ccr_base.specs.Names.{same_task, has_task, without}
 use Rattle.ccr_model.specs.Consequences.{are_distinct_tasks}
 use Rattle.ccr_model.specs.Rules.{is_first}
 use Rattle.ccr_model.proofs.QuietAllowsNone.{first_is}
-use Rattle.ccr_base.proofs.Options.{head_rest}
-use Rattle.ccr_base.proofs.SameNames.{same_task-is, same_task-self}
-use Rattle.ccr_model.proofs.TasksLeft.{has_task-append, has_task-filter}
-use Rattle.ccr_base.proofs.Booleans.{not_true, not_false, both, neither, or_left, or_right, either, refuted, no_both}
+use Rattle.ccr_base.proofs.Options.{head_rest, drop-next}
+use Rattle.ccr_base.proofs.SameNames.{same_task-is, same_task-self, has_task-append}
+use Rattle.ccr_model.proofs.TasksLeft.{has_task-filter}
+use Rattle.ccr_model.specs.Live.{is_none_of}
+use Rattle.ccr_model.proofs.Members.{Among, index_of, Among-map}
+use Rattle.ccr_base.proofs.Booleans.{not_true, not_false, both, or_left, or_right, either, refuted, no_both}
+use Rattle.ccr_base.proofs.Lists.{any_left, any_right, none_of_both, any_parts, any_at}
 
 -- a member that passes is a member of those that pass
 pub to_filter : (p : TaskId → Bool) (ts : List TaskId) (t : TaskId) → has_task ts t ≡ true → p t ≡ true → has_task (filter p ts) t ≡ true
@@ -21,9 +26,6 @@ to_without ts gone t is out = to_filter (λ u. not (has_task gone u)) ts t is (n
 
 pub without-append : (ts us gone : List TaskId) → without (ts ++ us) gone ≡ without ts gone ++ without us gone
 without-append ts us gone = grind (arith, common_steps)
-
-pub filter_append : (p : TaskId → Bool) (ts us : List TaskId) → filter p (ts ++ us) ≡ filter p ts ++ filter p us
-filter_append p ts us = grind (arith, common_steps)
 
 -- a test that all pass
 pub filter_all : (p : TaskId → Bool) (ts : List TaskId) → ((u : TaskId) → has_task ts u ≡ true → p u ≡ true) → filter p ts ≡ ts
@@ -61,13 +63,13 @@ pub of_more : (ts us : List TaskId) (t : TaskId) (C : Type 0) → has_task (ts +
 of_more ts us t C is one other = either (has_task ts t) (has_task us t) (sym (has_task-append ts us t) ∙ is) C one other
 
 pub among_left : (ts us : List TaskId) (t : TaskId) → has_task ts t ≡ true → has_task (ts ++ us) t ≡ true
-among_left ts us t is = rw has_task-append (or_left (has_task ts t) (has_task us t) is)
+among_left ts us t is = any_left (same_task t) ts us is
 
 pub among_right : (ts us : List TaskId) (t : TaskId) → has_task us t ≡ true → has_task (ts ++ us) t ≡ true
-among_right ts us t is = rw has_task-append (or_right (has_task ts t) (has_task us t) is)
+among_right ts us t is = any_right (same_task t) ts us is
 
 pub not_more : (ts us : List TaskId) (t : TaskId) → has_task ts t ≡ false → has_task us t ≡ false → has_task (ts ++ us) t ≡ false
-not_more ts us t one other = rw (has_task-append ts us t, one) other
+not_more ts us t one other = none_of_both (same_task t) ts us one other
 
 -- one of one
 pub of_one : (t u : TaskId) → has_task (t ∷ []) u ≡ true → u ≡ t
@@ -86,7 +88,7 @@ pub not_within : (ts us : List TaskId) (t : TaskId) → (has_task ts t ≡ true 
 not_within ts us t within out = refuted (has_task ts t) (λ is. no_both (within is) out)
 
 pub out_right : (ts us : List TaskId) (t : TaskId) → has_task (ts ++ us) t ≡ false → has_task us t ≡ false
-out_right ts us t is = (neither (has_task ts t) (has_task us t) (sym (has_task-append ts us t) ∙ is)).1
+out_right ts us t is = (any_parts (same_task t) ts us is).1
 
 -- who passes a test that some member passes
 pub any_named : (p : TaskId → Bool) (ts : List TaskId) → list_any p ts ≡ true → (t : TaskId) × (has_task ts t ≡ true) × (p t ≡ true)
@@ -116,9 +118,7 @@ passes_all p (x ∷ ts) t is all =
 
 -- without the first ones
 pub has_task-drop : (n : ℕ) (ts : List TaskId) (t : TaskId) → has_task (drop n ts) t ≡ true → has_task ts t ≡ true
-has_task-drop zero ts t is = is
-has_task-drop (suc n) [] t is = is
-has_task-drop (suc n) (x ∷ ts) t is = or_right (same_task t x) (has_task ts t) (has_task-drop n ts t is)
+has_task-drop n ts t is = subst (λ us. has_task us t ≡ true) (take-append-drop n ts) (any_right (same_task t) (take n ts) (drop n ts) is)
 
 pub distinct-drop : (n : ℕ) (ts : List TaskId) → are_distinct_tasks ts ≡ true → are_distinct_tasks (drop n ts) ≡ true
 distinct-drop zero ts is = is
@@ -126,16 +126,10 @@ distinct-drop (suc n) [] is = is
 distinct-drop (suc n) (x ∷ ts) is = distinct-drop n ts (both (not (has_task ts x)) (are_distinct_tasks ts) is).1
 
 pub drop_one_more : (n : ℕ) (ts us : List TaskId) (t : TaskId) → drop n ts ≡ t ∷ us → drop (suc n) ts ≡ us
-drop_one_more zero [] us t is = absurd (cc)
-drop_one_more zero (x ∷ ts) us t is = cc
-drop_one_more (suc n) [] us t is = absurd (cc)
-drop_one_more (suc n) (x ∷ ts) us t is = drop_one_more n ts us t is
+drop_one_more n ts us t is = sym (drop-next n ts t us (sym is)).1
 
 pub drop_some : (n : ℕ) (ts us : List TaskId) (t : TaskId) → drop n ts ≡ t ∷ us → n < length ts
-drop_some zero [] us t is = absurd (cc)
-drop_some zero (x ∷ ts) us t is = omega arith
-drop_some (suc n) [] us t is = absurd (cc)
-drop_some (suc n) (x ∷ ts) us t is = let less = drop_some n ts us t is in omega arith
+drop_some n ts us t is = (drop-next n ts t us (sym is)).2
 
 -- nobody goes
 pub none_gone : (ts : List TaskId) → without ts [] ≡ ts
@@ -145,3 +139,28 @@ none_gone ts = without_none ts [] (λ u is. refl)
 pub no_members : (ts : List TaskId) → ((t : TaskId) → has_task ts t ≡ true → ⊥) → ts ≡ []
 no_members [] none = refl
 no_members (t ∷ ts) none = absurd (none t (or_left (same_task t t) (has_task ts t) (same_task-self t)))
+
+-- who stands at an index is among them
+pub has_at : (ts : List TaskId) (n : ℕ) (t : TaskId) → slice_get ts n ≡ Some t → has_task ts t ≡ true
+has_at ts n t at = any_at (same_task t) ts n t at (same_task-self t)
+
+-- nobody is left without all
+pub all_gone : (ts gone : List TaskId) → ((u : TaskId) → has_task ts u ≡ true → has_task gone u ≡ true) → without ts gone ≡ []
+all_gone [] gone all = refl
+all_gone (x ∷ ts) gone all =
+    let here = all x (or_left (same_task x x) (has_task ts x) (same_task-self x)) in
+    rw here (all_gone ts gone (λ u among. all u (or_right (same_task u x) (has_task ts u) among)))
+
+-- where nobody is in two lists together, nobody is in the first
+pub none_before : (ts us : List TaskId) → is_none_of (ts ++ us) ≡ true → is_none_of ts ≡ true
+none_before [] us is = refl
+none_before (t ∷ ts) us is = grind (arith, nat_tests, is)
+
+-- who stands in a list is a member
+pub task_among : (ts : List TaskId) (t : TaskId) → has_task ts t ≡ true → Among t ts
+task_among [] t is = absurd (cc)
+task_among (u ∷ ts) t is = either (same_task t u) (has_task ts t) is (Among t (u ∷ ts)) (λ here. inl (same_task-is t u here)) (λ later. inr (task_among ts t later))
+
+-- a member's name is among the names
+pub named_has : {X : Type 0} (name : X → TaskId) (xs : List X) (x : X) → Among x xs → has_task (map name xs) (name x) ≡ true
+named_has name xs x is = let at = index_of (map name xs) (name x) (Among-map name xs x is) in has_at (map name xs) at.0 (name x) at.1

@@ -2,6 +2,7 @@
 use Rattle.std.proofs.Common.{◌≡◌, ℕ, Bool, false, List, [], ◌∷◌, ◌++◌, filter, Option, option_to_list, refl, arith, ◌∙◌, append-nil}
 use Rattle.std.specs.Prelude.{if◌then◌else◌, find}
 use Rattle.std.proofs.lemmas.Grind.{common_steps}
+use Rattle.std.proofs.lemmas.List.Elements.{filter_agree}
 use Rattle.ccr_base.specs.declared.names.TaskId.{TaskId}
 use Rattle.ccr_base.specs.declared.names.MsgId.{MsgId}
 use Rattle.ccr_base.specs.declared.messages.Msg.{Msg}
@@ -16,7 +17,6 @@ use Rattle.ccr_model.specs.Tasks.{is_for_queue, queued, running}
 use Rattle.ccr_model.proofs.OneMoreEvent.{firings-push, put-push, started-push, dropped-push}
 use Rattle.ccr_model.proofs.TasksLeft.{has_task-without, without_both, lists_start}
 use Rattle.ccr_base.proofs.Booleans.{neither}
-use Rattle.ccr_base.proofs.Filters.{filter_same}
 
 -- running, one lemma an event
 pub running-start : (h : List Event) (t : TaskId) (a : ℕ) → has_task (ended h) t ≡ false → running (h ++ Start t a ∷ []) ≡ running h ++ t ∷ []
@@ -61,7 +61,7 @@ lists_put f (p ∷ ps) ss ds more t fresh = grind (arith, common_steps, lists_pu
 -- queued, one lemma an event
 pub queued-start : (w : Parts) (h : List Event) (q : ℕ) (t : TaskId) (a : ℕ) → queued w (h ++ Start t a ∷ []) q ≡ without (queued w h q) (t ∷ [])
 queued-start w h q t a =
-    filter_same _ (is_for_queue w h q) _ (λ u. is_for_queue-start w h q t u a)
+    filter_agree _ (is_for_queue w h q) (λ u. is_for_queue-start w h q t u a) _
     ∙ rw (put-push, started-push, dropped-push, append-nil, append-nil) (lists_start (is_for_queue w h q) (put h) (started h) (dropped h) t)
 
 is_for_queue-put : (w : Parts) (h : List Event) (q : ℕ) (t u : TaskId) (d : Option TaskId) → is_for_queue w (h ++ Put t d ∷ []) q u ≡ is_for_queue w h q u
@@ -69,7 +69,7 @@ is_for_queue-put w h q t u d = rw (firings-push, append-nil) refl
 
 pub queued-put : (w : Parts) (h : List Event) (q : ℕ) (t : TaskId) (d : Option TaskId) → has_task (started h ++ (dropped h ++ option_to_list d)) t ≡ false → queued w (h ++ Put t d ∷ []) q ≡ without (queued w h q) (option_to_list d) ++ (if is_for_queue w h q t then t ∷ [] else [])
 queued-put w h q t d fresh =
-    filter_same _ (is_for_queue w h q) _ (λ u. is_for_queue-put w h q t u d)
+    filter_agree _ (is_for_queue w h q) (λ u. is_for_queue-put w h q t u d) _
     ∙ rw (put-push, started-push, dropped-push, append-nil) (lists_put (is_for_queue w h q) (put h) (started h) (dropped h) (option_to_list d) t fresh)
 
 -- a firing of a task that wasn't put changes no queue

@@ -1,20 +1,14 @@
 -- Over plain lists of tasks: who stands in a list, who passes a test, and who is left without others.
-use Rattle.std.proofs.Common.{◌≡◌, Bool, true, false, not, ◌&&◌, ◌||◌, List, [], ◌∷◌, ◌++◌, filter, refl, sym, arith, ◌∙◌}
+use Rattle.std.proofs.Common.{◌≡◌, Bool, true, false, not, ◌&&◌, ◌||◌, List, [], ◌∷◌, ◌++◌, filter, refl, sym, arith, ◌∙◌, length, ◌+◌, ◌≤◌}
 use Rattle.std.specs.Prelude.{if◌then◌else◌}
 use Rattle.std.proofs.lemmas.Grind.{common_steps}
 use Rattle.ccr_base.specs.declared.names.TaskId.{TaskId}
 use Rattle.ccr_base.specs.Names.{same_task, has_task, without}
 use Rattle.ccr_model.specs.Consequences.{are_distinct_tasks}
-use Rattle.ccr_base.proofs.SameNames.{same_task-is, same_task-self, same_task-sym}
-use Rattle.ccr_base.proofs.Booleans.{not_true, both, neither, or_left, or_right, or_assoc}
-
--- who stands in the list is one of it
-pub has_task-append : (ts us : List TaskId) (t : TaskId) → has_task (ts ++ us) t ≡ has_task ts t || has_task us t
-has_task-append [] us t = refl
-has_task-append (x ∷ ts) us t = rw (has_task-append ts us t) (or_assoc (same_task t x) (has_task ts t) (has_task us t))
-
-pub has_task-last : (ts : List TaskId) (t : TaskId) → has_task (ts ++ t ∷ []) t ≡ true
-has_task-last ts t = grind (arith, common_steps, same_task-self t)
+use Rattle.ccr_base.proofs.SameNames.{same_task-is, same_task-self, same_task-sym, has_task-append}
+use Rattle.ccr_base.proofs.Booleans.{not_true, both, neither, or_left, or_right}
+use Rattle.ccr_base.proofs.Lists.{any_parts}
+use Rattle.ccr_base.proofs.Filters.{length-filter_stronger}
 
 pub has_task-filter : (p : TaskId → Bool) (ts : List TaskId) (t : TaskId) → has_task (filter p ts) t ≡ has_task ts t && p t
 has_task-filter p [] t = refl
@@ -64,7 +58,7 @@ lists_start f (p ∷ ps) ss ds t = grind (arith, common_steps, lists_start f ps 
 
 -- out of a longer list, out of its first part
 pub out_left : (front back : List TaskId) (t : TaskId) → has_task (front ++ back) t ≡ false → has_task front t ≡ false
-out_left front back t is = grind (arith, common_steps)
+out_left front back t is = (any_parts (same_task t) front back is).0
 
 -- nobody stands twice in a part
 pub distinct-filter : (p : TaskId → Bool) (ts : List TaskId) → are_distinct_tasks ts ≡ true → are_distinct_tasks (filter p ts) ≡ true
@@ -83,3 +77,22 @@ distinct-push (x ∷ ts) t is out =
     let parts = both (not (has_task ts x)) (are_distinct_tasks ts) is in
     let outs = neither (same_task t x) (has_task ts t) out in
     rw (has_task-append ts (t ∷ []) x, not_true (has_task ts x) parts.0, same_task-sym x t, outs.0) (distinct-push ts t parts.1 outs.1)
+
+-- one more is gone
+pub less_left : (came gone : List TaskId) (t : TaskId) → has_task came t ≡ true → has_task gone t ≡ false → length (without came (gone ++ t ∷ [])) + 1 ≤ length (without came gone)
+less_left [] gone t is out = absurd (cc)
+less_left (x ∷ came) gone t is out = of_test (same_task t x) refl is (length-filter_stronger (λ u. not (has_task gone u)) (λ u. not (has_task (gone ++ t ∷ []) u)) (stronger gone t) came) (λ among. less_left came gone t among out)
+  where
+    stronger : (gone : List TaskId) (t u : TaskId) → not (has_task (gone ++ t ∷ []) u) ≡ true → not (has_task gone u) ≡ true
+    stronger gone t u left = grind (arith, common_steps)
+
+    of_test : (b : Bool) → same_task t x ≡ b → b || has_task came t ≡ true → length (without came (gone ++ t ∷ [])) ≤ length (without came gone) → (has_task came t ≡ true → length (without came (gone ++ t ∷ [])) + 1 ≤ length (without came gone)) → length (without (x ∷ came) (gone ++ t ∷ [])) + 1 ≤ length (without (x ∷ came) gone)
+    of_test true same among all rest =
+        let one : t ≡ x = same_task-is t x same in
+        let here : has_task (gone ++ t ∷ []) x ≡ true = rw one (grind (arith, common_steps, same_task-self x)) in
+        let there : has_task gone x ≡ false = rw (← one) out in
+        grind (arith, here, there, all)
+    of_test false same among all rest =
+        let less = rest among in
+        let keeps = stronger gone t x in
+        grind (arith, less, keeps)

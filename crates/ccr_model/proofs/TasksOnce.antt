@@ -5,7 +5,7 @@ use Rattle.std.specs.Option.{option_map_or}
 use Rattle.ccr_base.specs.declared.names.TaskId.{TaskId}
 use Rattle.ccr_base.specs.declared.names.Spot.{Spot}
 use Rattle.ccr_base.specs.declared.names.Spot.TheVariants.{Branch, Site}
-use Rattle.ccr_base.specs.Names.{same_task, has_task}
+use Rattle.ccr_base.specs.Names.{same_task, has_task, without}
 use Rattle.ccr_wiring.specs.declared.parts.Parts.{Parts}
 use Rattle.ccr_wiring.specs.Wirings.{placement, Placement}
 use Rattle.ccr_model.specs.declared.history.Event.{Event}
@@ -16,12 +16,12 @@ use Rattle.ccr_model.specs.Interleaves.{is_placement_in}
 use Rattle.ccr_model.specs.Tasks.{is_interleave, is_branch_where, fired_by, waiting, is_teardown}
 use Rattle.ccr_model.specs.Legal.{IsAllowed, IsLegal}
 use Rattle.ccr_model.proofs.Allowing.{OneName-legal}
-use Rattle.ccr_base.proofs.Booleans.{both, not_true, same_number}
+use Rattle.ccr_base.proofs.Booleans.{both, not_true, same_number, eq-self, eq_turned, no_both, refuted}
 use Rattle.ccr_model.proofs.AllowedFirings.{FiresSo-allowed, WaitingFacts-waiting}
 use Rattle.ccr_base.proofs.Options.{some_of}
 use Rattle.ccr_model.proofs.PostNames.{along}
 use Rattle.ccr_model.proofs.OneMoreEvent.{fired-fire, firings-push}
-use Rattle.ccr_model.proofs.TaskLists.{not_within}
+use Rattle.ccr_model.proofs.TaskLists.{not_within, without_none}
 use Rattle.ccr_model.proofs.TasksLeft.{distinct-push, distinct-filter}
 use Rattle.ccr_model.specs.Rules.{cuts_at}
 
@@ -89,3 +89,11 @@ cuts_distinct w h (Branch b) legal = of_option (placement w b)
         of_test : (c : Bool) → are_distinct_tasks (if c then waiting w h z.domain else []) ≡ true
         of_test true = waiting_once w h z.domain legal
         of_test false = refl
+
+-- who waits in one domain waits in no other
+pub waits_elsewhere : (w : Parts) (h : List Event) (i j : ℕ) (t : TaskId) → IsLegal w h → has_task (waiting w h i) t ≡ true → (i == j) ≡ false → has_task (waiting w h j) t ≡ false
+waits_elsewhere w h i j t legal here other = refuted (has_task (waiting w h j) t) (λ there. no_both (subst (λ k. (i == k) ≡ true) (waits_in_one w h i j t legal here there) (eq-self i)) other)
+
+-- those who wait in another domain stay
+pub waiting_apart : (w : Parts) (h : List Event) (i j : ℕ) → IsLegal w h → (i == j) ≡ false → without (waiting w h j) (waiting w h i) ≡ waiting w h j
+waiting_apart w h i j legal other = without_none (waiting w h j) (waiting w h i) (λ u is. waits_elsewhere w h j i u legal is (eq_turned i j other))

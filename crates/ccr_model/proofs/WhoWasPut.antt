@@ -6,7 +6,7 @@ use Rattle.ccr_base.specs.declared.names.TaskId.{TaskId}
 use Rattle.ccr_wiring.specs.declared.parts.Parts.{Parts}
 use Rattle.ccr_model.specs.declared.history.Event.{Event}
 use Rattle.ccr_model.specs.declared.history.Event.TheVariants.{Post, Fire, Admit, Put, Start, End}
-use Rattle.ccr_base.specs.Names.{has_task, without}
+use Rattle.ccr_base.specs.Names.{has_task, without, same_task}
 use Rattle.ccr_wiring.specs.Wirings.{Placement, placement, branch_of}
 use Rattle.ccr_model.specs.Firings.{Firing, firing_named, spot_of, cut, ever_admitted, put, put_by, started, started_by, dropped, dropped_by}
 use Rattle.ccr_model.specs.TaskData.{placement_of}
@@ -18,7 +18,8 @@ use Rattle.ccr_model.proofs.PostNames.{along, refused_not}
 use Rattle.ccr_model.proofs.OneMoreEvent.{put-push, started-push, dropped-push}
 use Rattle.ccr_base.proofs.Options.{some_of, some_map, head_rest}
 use Rattle.ccr_model.proofs.TasksLeft.{of_filter, of_without, out_left, distinct-push}
-use Rattle.ccr_base.proofs.Booleans.{not_true, both, refuted, no_both}
+use Rattle.ccr_base.proofs.Booleans.{not_true, both, refuted, no_both, or_left}
+use Rattle.ccr_base.proofs.SameNames.{same_task-self}
 use Rattle.ccr_model.proofs.FiredTasks.{IsFired, AreFired, IsFired-append}
 use Rattle.ccr_model.proofs.AllowedDrops.{put_allowed, drop_allowed}
 use Rattle.ccr_model.proofs.TaskLists.{first_rest, has_oldest, of_more, among_left, not_more, of_one, out_right}
@@ -168,3 +169,11 @@ ArePlaced-none = record { lists = record { once = refl; put_started = λ t is. a
 
 pub ArePlaced-legal : (w : Parts) (h : List Event) → IsLegal w h → ArePlaced h
 ArePlaced-legal w h legal = along w ArePlaced (ArePlaced_kept w) ArePlaced-none h legal
+
+-- who started has fired
+pub started_fired : (w : Parts) (h : List Event) → IsLegal w h → (t : TaskId) → has_task (started h) t ≡ true → IsFired h t
+started_fired w h legal t is = let placed = ArePlaced-legal w h legal in placed.all_fired t (placed.lists.put_started t is)
+
+-- who is dropped by a put was put
+pub dropped_was_put : (w : Parts) (h : List Event) (t : TaskId) (d : Option TaskId) → IsAllowed w h (Put t d) → (x : TaskId) → d ≡ Some x → has_task (put h) x ≡ true
+dropped_was_put w h t d allowed x is = (new_drop w h (Put t d) x allowed (subst (λ o. has_task (option_to_list o) x ≡ true) (sym is) (or_left (same_task x x) false (same_task-self x)))).1.put_so

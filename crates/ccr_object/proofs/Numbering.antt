@@ -7,13 +7,14 @@ use Rattle.std.proofs.lemmas.Bool.{cases_lt, eqb-true, lt-ltb, ltb-true, and_par
 use Rattle.std.proofs.lemmas.List.{length-append, length-map}
 use Rattle.std.proofs.lemmas.List.Concat.{flat_map-cons}
 use Rattle.std.proofs.lemmas.List.Elements.{All-nil, All-cons, All-head, All-tail}
+use Rattle.std.proofs.lemmas.Option.{slice_get_past}
 use Rattle.ccr_base.specs.declared.messages.Msg.{Msg}
 use Rattle.ccr_base.specs.declared.names.Spot.{Spot}
 use Rattle.ccr_base.specs.declared.names.Spot.TheVariants.{Branch, Site}
 use Rattle.ccr_base.specs.declared.tasks.Cut.{Cut}
 use Rattle.ccr_base.specs.declared.tasks.Task.{Task}
 use Rattle.ccr_base.specs.Lists.{are_apart}
-use Rattle.ccr_base.proofs.Options.{get-before, is_some-get}
+use Rattle.ccr_base.proofs.Options.{is_some-get, get-last, get-left}
 use Rattle.ccr_wiring.specs.declared.parts.ArbiterPart.{ArbiterPart}
 use Rattle.ccr_wiring.specs.declared.parts.BranchPart.{BranchPart}
 use Rattle.ccr_wiring.specs.declared.parts.Kind.{Kind}
@@ -70,25 +71,15 @@ module _ (wiring : Parts) where
   tests_long zero = refl
   tests_long (suc n) = length-append (domain_tests wiring.domains n) _ ∙ (let rest = tests_long n in omega arith)
 
-  at_end : {X : Type 0} (xs : List X) (x : X) (i : ℕ) → i ≡ length xs → slice_get (xs ++ x ∷ []) i ≡ Some x
-  at_end [] x i is = rw is refl
-  at_end (y ∷ ys) x zero is = absurd (omega arith)
-  at_end (y ∷ ys) x (suc i) is = at_end ys x i (omega arith)
-
-  past_end : {X : Type 0} (xs : List X) (i : ℕ) → length xs ≤ i → slice_get xs i ≡ None
-  past_end [] i high = refl
-  past_end (x ∷ xs) zero high = absurd (omega arith)
-  past_end (x ∷ xs) (suc i) high = past_end xs i (omega arith)
-
   test_at : (n i : ℕ) → i < n → slice_get (domain_tests wiring.domains n) i ≡ Some (domain_of wiring.domains i == i)
   test_at zero i low = absurd (omega arith)
   test_at (suc n) i low = by (cases_lt i n) (test_at n i)
     where
       by : (i < n) ⊎ (n ≤ i) → (i < n → slice_get (domain_tests wiring.domains n) i ≡ Some (domain_of wiring.domains i == i)) → slice_get (domain_tests wiring.domains n ++ (domain_of wiring.domains n == n) ∷ []) i ≡ Some (domain_of wiring.domains i == i)
-      by (inl less) rest = get-before (domain_tests wiring.domains n) (domain_of wiring.domains n == n) i (rw (tests_long n) less) ∙ rest less
+      by (inl less) rest = get-left (domain_tests wiring.domains n) _ i (rw (tests_long n) less) ∙ rest less
       by (inr more) rest =
           let last : i ≡ n = omega (arith, low, more) in
-          at_end (domain_tests wiring.domains n) (domain_of wiring.domains n == n) i (last ∙ sym (tests_long n)) ∙ ap (λ k. Some (domain_of wiring.domains k == k)) (sym last)
+          get-last (domain_tests wiring.domains n) _ i (domain_of wiring.domains n == n) (last ∙ sym (tests_long n)) refl ∙ ap (λ k. Some (domain_of wiring.domains k == k)) (sym last)
 
   domain_to : (i : ℕ) → has_domain (numbers_of wiring) i ≡ true → IsDomainOf wiring i
   domain_to i e = by (cases_lt i (length wiring.arbiters))
@@ -99,7 +90,7 @@ module _ (wiring : Parts) where
       by : (i < n) ⊎ (n ≤ i) → IsDomainOf wiring i
       by (inl less) = (less, eqb-true (domain_of wiring.domains i) i (sym (ap (λ o. option_map_or (λ (own : Bool). own) o false) (test_at n i less)) ∙ e))
       by (inr more) =
-          let none : has_domain (numbers_of wiring) i ≡ false = ap (λ o. option_map_or (λ (own : Bool). own) o false) (past_end (domain_tests wiring.domains n) i (rw (tests_long n) more)) in
+          let none : has_domain (numbers_of wiring) i ≡ false = ap (λ o. option_map_or (λ (own : Bool). own) o false) (slice_get_past (domain_tests wiring.domains n) i (rw (tests_long n) more)) in
           absurd (let no = sym none ∙ e in cc)
 
   domain_from : (i : ℕ) → IsDomainOf wiring i → has_domain (numbers_of wiring) i ≡ true

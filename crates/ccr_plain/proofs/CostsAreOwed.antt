@@ -1,5 +1,5 @@
 -- What an actor's hand, its attempt and its task can still cost is at most what is owed to it.
-use Rattle.std.proofs.Common.{◌≡◌, ◌≤◌, inl, inr, ℕ, zero, suc, ◌+◌, ◌*◌, Bool, true, false, List, [], ◌∷◌, ◌++◌, length, map, reverse, Option, Some, None, refl, sym, arith, ap, subst, length-append, append-nil}
+use Rattle.std.proofs.Common.{◌≡◌, ◌≤◌, inl, inr, ℕ, zero, suc, ◌+◌, ◌*◌, Bool, true, false, List, [], ◌∷◌, ◌++◌, length, map, reverse, Option, Some, None, refl, sym, arith, ap, subst, length-append, append-nil, append_assoc}
 use Rattle.std.specs.Prelude.{if◌then◌else◌, nat_lt, nat_le, fold, ◌==◌, ◌||◌}
 use Rattle.std.specs.List.{slice_get}
 use Rattle.std.specs.Option.{option_map_or}
@@ -405,17 +405,13 @@ next-weighs w a st new r (inr is) = let same = ap weight is in let less = short-
 
 -- ---- along the steps of an actor
 
-regroup : (xs : List Reply) (y : Reply) (zs : List Reply) → (xs ++ y ∷ []) ++ zs ≡ xs ++ y ∷ zs
-regroup [] y zs = refl
-regroup (x ∷ xs) y zs = ap (λ l. x ∷ l) (regroup xs y zs)
-
 weighs-along : (w : Parts) (a : ℕ) (lack : Option ℕ) (given : List Reply) (owed : ℕ) (steps : List Step) → weight (state_after w a lack given) ≤ owed → AreNext w a lack given steps → AreFitting steps → weight (state_after w a lack (given ++ replies_of steps)) ≤ fold owed_after owed steps
 weighs-along w a lack given owed [] less all fit = subst (λ g. weight (state_after w a lack g) ≤ owed) (sym (append-nil given)) less
 weighs-along w a lack given owed (step ∷ steps) less all fit =
     let st = state_after w a lack given in
     let once = paid w a st step.asked step.reply all.0 fit.0 in
     let on = next-weighs w a st (state_after w a lack (given ++ step.reply ∷ [])) step.reply (state_after-push w a lack given step.reply) in
-    subst (λ g. weight (state_after w a lack g) ≤ fold owed_after (owed_after owed step) steps) (regroup given step.reply (replies_of steps))
+    subst (λ g. weight (state_after w a lack g) ≤ fold owed_after (owed_after owed step) steps) (append_assoc given (step.reply ∷ []) (replies_of steps))
     (weighs-along w a lack (given ++ step.reply ∷ []) (owed_after owed step) steps (omega (arith, less, once, on)) all.1 fit.1)
 
 start-weighs : (w : Parts) (a : ℕ) (lack : Option ℕ) → weight (state_after w a lack []) ≡ 0

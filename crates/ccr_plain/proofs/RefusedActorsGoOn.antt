@@ -1,22 +1,22 @@
 -- An actor that is refused memory: what it asks from then on, and that the run so far is one in which it lacks memory from here on.
-use Rattle.std.proofs.Common.{◌≡◌, ◌<◌, ◌≤◌, ℕ, ◌+◌, Bool, true, false, List, [], ◌∷◌, ◌++◌, length, length-append, take, drop, get_or, Option, Some, None, refl, sym, arith, ap, ◌∙◌, subst, cond}
-use Rattle.std.specs.Prelude.{◌==◌, if◌then◌else◌, nat_le, slice_get, slice_set}
+use Rattle.std.proofs.Common.{◌≡◌, ◌<◌, ◌≤◌, ℕ, ◌+◌, Bool, true, false, List, [], ◌∷◌, ◌++◌, length, length-append, drop, get_or, Option, Some, None, refl, sym, arith, ap, ◌∙◌, subst, cond}
+use Rattle.std.specs.Prelude.{◌==◌, if◌then◌else◌, slice_get, slice_set}
 use Rattle.std.specs.Option.{option_map, option_and_then}
-use Rattle.std.proofs.lemmas.Bool.Decides.{nat_tests}
 use Rattle.std.proofs.Math.ListN.{length-set}
 use Rattle.ccr_wiring.specs.declared.parts.Parts.{Parts}
 use Rattle.ccr_wiring.specs.Valid.{IsValid}
 use Rattle.ccr_base.proofs.Booleans.{eq-self, same_number, differ}
 use Rattle.ccr_base.specs.Lists.{has_number}
+use Rattle.ccr_base.proofs.Options.{get-set_same, get-set_other}
 use Rattle.ccr_claim.specs.declared.asks.Ask.{Ask}
 use Rattle.ccr_claim.specs.declared.asks.Ask.TheVariants as asks
 use Rattle.ccr_claim.specs.declared.asks.Asked.{Asked}
 use Rattle.ccr_claim.specs.declared.asks.Reply.{Reply}
 use Rattle.ccr_claim.specs.Asks.{AreSettling, due_of, is_refusable, is_settling}
-use Rattle.ccr_actor.specs.Actors.{State, Turn, settle, admit, drive, go_on, stop, after_all, ask_in, asked, shorten, start, state_after, turn}
+use Rattle.ccr_actor.specs.Actors.{State, Turn, settle, admit, drive, go_on, stop, ask_in, asked, shorten, state_after, turn}
 use Rattle.ccr_actor.specs.Actors as actors
 use Rattle.ccr_actor.specs.Acting.{Acting, at_state, kept, next, sent, sent_state, shortened}
-use Rattle.ccr_actor.proofs.ActorsFollowTheirSteps.{state_short}
+use Rattle.ccr_actor.proofs.ActorsFollowTheirSteps.{state_short, later}
 use Rattle.ccr_actor.proofs.WhatCountsIsKept.{kept_asked, kept_short, kept_whole}
 use Rattle.ccr_actor.proofs.HandsSettle.{all_settle, short_settles}
 use Rattle.ccr_actor.proofs.TurnsTellStates.{IsTurnOf, turn_is}
@@ -37,7 +37,7 @@ use Rattle.ccr_plain.specs.Shortages.{SoFar, counted, lacking, make, refuse, sho
 use Rattle.ccr_net.proofs.Played.EachPlaceAnswers.{step_facts}
 use Rattle.ccr_net.proofs.Played.PlayedRunsAreRuns.{Matches, Matches-begins, act_adds}
 use Rattle.ccr_net.proofs.Played.NextAsksAreAnswered.{StepFacts}
-use Rattle.ccr_net.proofs.Played.PlayedRunsGoOn.{cast_from, drop_here, got_other, got_set, match_so, next_same, played_run, acting_of, step_made, step_played}
+use Rattle.ccr_net.proofs.Played.PlayedRunsGoOn.{cast_from, drop_here, match_so, next_same, played_run, acting_of, step_made, step_played}
 
 same_length : (n : ℕ) → n ≤ n
 same_length n = omega arith
@@ -124,9 +124,7 @@ acting_beside w lacks es k n j x other acting = record {
 
 -- running out of memory behind these replies changes nothing yet
 fewer : (w : Parts) (k n : ℕ) (given : List Reply) → length given < n → actors.next w k (Some n) given ≡ actors.next w k None given
-fewer w k n given less =
-    let no : nat_le n (length given) ≡ false = grind (arith, nat_tests, less) in
-    ap (λ b. asked w k (cond b (after_all w k (shorten w k (after_all w k (start w k) (take n given))) (drop n given)) (after_all w k (start w k) given))) no
+fewer w k n given less = ap (asked w k) (later w k n given less)
 
 heard_more : (s : Heard) (answer : PlaceAnswer) → length s.given ≤ length (heard s answer).given
 heard_more s (Replied reply) = longer s.given (reply ∷ [])
@@ -200,9 +198,9 @@ module _ (workers : ℕ) (lacks : Lacks) (state : PlainState) (team : List Actin
         by : (t : Bool) → (k == j) ≡ t → IsActing w (lacking lacks k count) entries j x
         by true is =
             let j_is : k ≡ j = same_number k j is in
-            let x_is : x ≡ b = got_set team k b x low (subst (λ i. slice_get (slice_set team k b) i ≡ Some x) (sym j_is) at) in
+            let x_is : x ≡ b = (let there = sym (subst (λ i. slice_get (slice_set team k b) i ≡ Some x) (sym j_is) at) ∙ get-set_same team k b low in cc) in
             subst (λ i. IsActing w (lacking lacks k count) entries i x) j_is (subst (IsActing w (lacking lacks k count) entries k) (sym x_is) (acting_refused w lacks entries k a b one acting_so asks goes so))
-        by false is = acting_beside w lacks entries k count j x is (played.acting j x (sym (got_other team k b j (λ same. differ k j is (sym same))) ∙ at))
+        by false is = acting_beside w lacks entries k count j x is (played.acting j x (sym (get-set_other team k b j (λ same. differ k j is (sym same))) ∙ at))
 
     run_so : IsRunFrom (protocol w (lacking lacks k count)) (length w.posters + workers) (scene w) (cast (protocol w (lacking lacks k count))) state.acts
     run_so =

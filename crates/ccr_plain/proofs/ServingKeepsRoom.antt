@@ -18,7 +18,7 @@ use Rattle.ccr_claim.specs.Asks.{due_of, fits, is_settling}
 use Rattle.ccr_actor.specs.Actors.{next}
 use Rattle.ccr_actor.specs.Nets.{AreFitting, AreNext, IsProper, Step}
 use Rattle.ccr_actor.specs.Nets as nets
-use Rattle.ccr_actor.proofs.ActorsFollowTheirSteps.{next_more, replies-more}
+use Rattle.ccr_actor.proofs.ActorsFollowTheirSteps.{next_more, replies-more, fitting-both}
 use Rattle.ccr_object.specs.declared.deed.PlaceAnswer.{PlaceAnswer}
 use Rattle.ccr_object.specs.declared.deed.PlaceAnswer.TheVariants.{Replied}
 use Rattle.ccr_object.specs.declared.deed.Deed.{Deed}
@@ -94,10 +94,6 @@ sum-none w zero = refl
 sum-none w (suc n) = let below = sum-none w n in omega (arith, below)
 
 -- ---- one more step
-
-fitting-push : (steps : List Step) (step : Step) → AreFitting steps → fits (due_of step.asked.ask) step.reply ≡ true → AreFitting (steps ++ step ∷ [])
-fitting-push [] step all fit = (fit, tt)
-fitting-push (first ∷ steps) step all fit = (all.0, fitting-push steps step all.1 fit)
 
 owed-push : (steps : List Step) (step : Step) → owed_by (steps ++ step ∷ []) ≡ owed_after (owed_by steps) step
 owed-push steps step = fold-append owed_after 0 steps (step ∷ [])
@@ -231,7 +227,7 @@ module _ (w : Parts) (acts : List (Act Deed)) (serving : IsServing w acts) (k : 
             (ap nets.replies_of steps_own ∙ replies-more (steps_in w acts k) step ∙ ap (λ given. given ++ reply ∷ []) (serving.heard k) ∙ sym replies_own ∙ ap (λ es. replies_of w es k) (sym entries_so))
             (λ j other. ap nets.replies_of (steps_other j other) ∙ serving.heard j ∙ sym (heard_other w 16 own_lacks serving.valid few_workers acts run_now k low one asks_now entry is_entry j other) ∙ ap (λ es. replies_of w es j) (sym entries_so));
         fitting = each (λ j. AreFitting (steps_in w (acts ++ act ∷ []) j))
-            (subst AreFitting (sym steps_own) (fitting-push (steps_in w acts k) step (serving.fitting k) fit))
+            (subst AreFitting (sym steps_own) (fitting-both (steps_in w acts k) (step ∷ []) (serving.fitting k) (fit, tt)))
             (λ j other. subst AreFitting (sym (steps_other j other)) (serving.fitting j));
         others = each (λ j. seats w ≤ j → steps_in w (acts ++ act ∷ []) j ≡ [])
             (λ high. absurd (omega (arith, low, high)))

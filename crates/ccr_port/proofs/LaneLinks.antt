@@ -1,35 +1,28 @@
 -- What the writes of a lane leave: its keys, linked.
-use Rattle.std.proofs.Common.{◌≡◌, ℕ, zero, suc, ◌+◌, ◌-◌, ◌^◌, ◌<◌, ◌≤◌, true, false, ◌==◌, ◌&&◌, List, [], ◌∷◌, ◌++◌, length, Option, Some, None, refl, sym, ap, ◌∙◌, arith, length-append}
+use Rattle.std.proofs.Common.{◌≡◌, ℕ, zero, suc, ◌+◌, ◌-◌, ◌^◌, ◌<◌, ◌≤◌, true, false, ◌==◌, ◌&&◌, List, [], ◌∷◌, ◌++◌, length, Option, Some, None, refl, sym, ap, ◌∙◌, arith, length-append, Bool}
 use Rattle.std.specs.Prelude.{if◌then◌else◌, nat_lt}
 use Rattle.std.specs.List.{slice_get, list_all}
 use Rattle.std.specs.Option.{option_and_then}
 use Rattle.std.proofs.Math.ListN.{set, get_or}
 use Rattle.std.proofs.lemmas.List.{length-set}
 use Rattle.std.proofs.lemmas.Grind.{common_steps}
-use Rattle.std.proofs.lemmas.Bool.Decides.{nat_tests}
 use Rattle.std.proofs.lemmas.Bool.{ltb-true, lt-ltb}
-use Rattle.ccr_base.proofs.Booleans.{not_true}
+use Rattle.std.proofs.lemmas.Option.{slice_get_read}
+use Rattle.ccr_base.proofs.Booleans.{not_true, same_number, differ}
 use Rattle.ccr_base.proofs.Lists.{all_more}
+use Rattle.ccr_base.proofs.Options.{get-set_same, get-set_other}
 use Rattle.ccr_port.specs.declared.links.Link.{Link}
 use Rattle.ccr_port.specs.Chains.{behind_of, before_of, has_key, without_key, IsChain, mended}
 use Rattle.ccr_port.specs.Lanes.{is_below, lane_keys, IsLinkedLane, KeyLaneState, can_enter}
 use Rattle.ccr_port.proofs.Chains.{both, keys-are, behind-index, all-without, end-holds, key-holds, behind_key-holds, before_key-holds, length-without_key, chain-same}
 use Rattle.ccr_port.proofs.Linking.{chain-appended, chain-unlinked}
 
-slice_get-at : {X : Type 0} (xs : List X) (k : ℕ) (x : X) → k < length xs → x ≡ get_or xs k x → slice_get xs k ≡ Some x
-slice_get-at [] k x low is = absurd (omega arith)
-slice_get-at (y ∷ xs) zero x low is = ap (λ z. Some z) (sym is)
-slice_get-at (y ∷ xs) (suc k) x low is = slice_get-at xs k x (omega arith) is
-
 slice_get-set : {X : Type 0} (xs : List X) (key k : ℕ) (x : X) → key < length xs → slice_get (set xs key x) k ≡ (if k == key then Some x else slice_get xs k)
-slice_get-set [] key k x low = absurd (omega arith)
-slice_get-set (y ∷ xs) zero zero x low = refl
-slice_get-set (y ∷ xs) zero (suc k) x low = grind (arith, nat_tests)
-slice_get-set (y ∷ xs) (suc key) zero x low = grind (arith, nat_tests)
-slice_get-set (y ∷ xs) (suc key) (suc k) x low = slice_get-set xs key k x (omega arith) ∙ same_test
+slice_get-set xs key k x low = of_test (k == key) refl
   where
-    same_test : (if k == key then Some x else slice_get xs k) ≡ (if suc k == suc key then Some x else slice_get (y ∷ xs) (suc k))
-    same_test = grind (arith, nat_tests)
+    of_test : (same : Bool) → (k == key) ≡ same → slice_get (set xs key x) k ≡ (if same then Some x else slice_get xs k)
+    of_test true is = ap (slice_get (set xs key x)) (same_number k key is) ∙ get-set_same xs key x low
+    of_test false is = get-set_other xs key x k (differ k key is)
 
 -- these keys are linked, and the fields lead to them
 pub record Leads (links : List Link) (first last : Option ℕ) (count : ℕ) (ks : List ℕ) : Type 0 where
@@ -51,7 +44,7 @@ module _ (links : List Link) (first last : Option ℕ) (count : ℕ) (is : IsLin
 
     module _ (link : Link) (read : link ≡ get_or links key link) where
       at : slice_get links key ≡ Some link
-      at = slice_get-at links key link key-below read
+      at = slice_get_read links (length links) key link refl key-below read
 
       pub lane-behind : (index : ℕ) → slice_get (lane_keys links first count) index ≡ Some key → link.behind ≡ slice_get (lane_keys links first count) (index + 1)
       lane-behind index stands =

@@ -12,6 +12,8 @@ use Rattle.ccr_base.specs.declared.patterns.Pred.{Pred}
 use Rattle.ccr_base.specs.Selection.{holds, fitting}
 use Rattle.ccr_base.proofs.Booleans.{eq_turned, not_true, eq-self, same_number}
 use Rattle.ccr_base.specs.Lists.{are_apart}
+use Rattle.ccr_base.proofs.Lists.{take_none}
+use Rattle.ccr_base.proofs.Options.{none-above}
 use Rattle.ccr_places.specs.Ports.{without_first}
 use Rattle.ccr_places.proofs.FirstFitting.{without_first-none}
 use Rattle.ccr_port.specs.Chains.{has_key}
@@ -129,10 +131,6 @@ pub record IsSelection (pred : Pred) (n : ℕ) (es : List (ℕ × Msg)) : Type 0
   pub can_go : can_take (take n (fitting_keys pred es)) es ≡ true
   pub rest : messages_of (without_entries (take n (fitting_keys pred es)) es) ≡ without_first n pred (messages_of es)
 
-take_none : {X : Type 0} (xs : List X) → take 0 xs ≡ []
-take_none [] = refl
-take_none (x ∷ xs) = refl
-
 none_chosen : (pred : Pred) (es : List (ℕ × Msg)) → IsSelection pred 0 es
 none_chosen pred es =
     let none = take_none (fitting_keys pred es) in
@@ -229,9 +227,7 @@ keys-long [] = refl
 keys-long (e ∷ es) = ap suc (keys-long es)
 
 pub some_at : (ks : List ℕ) (index : ℕ) → index < length ks → slice_get ks index ≡ None → ⊥
-some_at [] index low none = omega arith
-some_at (k ∷ ks) zero low none = cc
-some_at (k ∷ ks) (suc index) low none = some_at ks index (omega arith) none
+some_at ks index low none = omega (arith, low, none-above ks index none)
 
 pub has-at : (ks : List ℕ) (index key : ℕ) → slice_get ks index ≡ Some key → has_key key ks ≡ true
 has-at [] index key is = absurd (cc)

@@ -12,7 +12,7 @@ use Rattle.ccr_base.specs.declared.names.TaskId.{TaskId}
 use Rattle.ccr_base.specs.Names.{same_task}
 use Rattle.ccr_base.proofs.Options.{none_is}
 use Rattle.ccr_base.proofs.SameNames.{same_task-is}
-use Rattle.ccr_base.proofs.Lists.{none_mapped}
+use Rattle.ccr_base.proofs.Lists.{none_mapped, list_any-map}
 use Rattle.ccr_places.specs.Queues.{Queued}
 use Rattle.ccr_places.specs.TaskSets.{task_cmp, len-there, same_task_equiv}
 use Rattle.ccr_places.specs.TaskTables.{tasks_where, kept_of, contains-tasks_where, tasks_where-put, tasks_where-gone, tasks_where-same, len-tasks_where}
@@ -187,10 +187,6 @@ module _ (old new : List (TaskId × QueueStage)) (queued : List Queued) (fresh r
       (tasks_where-gone is_fresh old new task None tied.distinct distinct updates refl, tasks_where-gone is_resuming old new task None tied.distinct distinct updates refl)
 
 -- ---- a put
-
-list_any-map : {X Y : Type 0} (p : Y → Bool) (f : X → Y) (xs : List X) → list_any p (map f xs) ≡ list_any (λ x. p (f x)) xs
-list_any-map p f [] = refl
-list_any-map p f (x ∷ xs) = ap (λ b. p (f x) || b) (list_any-map p f xs)
 
 last_there : (a : Bool) → true ≡ (a || (true || false))
 last_there true = refl

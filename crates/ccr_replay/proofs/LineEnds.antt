@@ -5,40 +5,14 @@ use Rattle.std.specs.List.{list_all, onto_first}
 use Rattle.std.proofs.lemmas.Bool.Decides.{nat_tests}
 use Rattle.std.proofs.lemmas.Grind.{common_steps}
 use Rattle.ccr_text.specs.Lines.{begin_from, begins_with, split_text, behind_line}
-use Rattle.ccr_replay.proofs.Splits.{split_one, spans}
-
-none_split : (text : List ℕ) → split_text text ≡ [] → text ≡ []
-none_split [] is = refl
-none_split (b ∷ text) is = go (b == 10) is
-  where
-    onto : (ls : List (List ℕ)) → onto_first b ls ≡ [] → b ∷ text ≡ []
-    onto [] is = absurd (cc)
-    onto (l ∷ ls) is = absurd (cc)
-
-    go : (t : Bool) → (if t then ([] ∷ split_text text) else onto_first b (split_text text)) ≡ [] → b ∷ text ≡ []
-    go true is = absurd (cc)
-    go false is = onto (split_text text) is
+use Rattle.ccr_text.proofs.FirstLine.{split_next}
+use Rattle.ccr_text.proofs.Again.{split_off}
+use Rattle.ccr_replay.proofs.Splits.{spans}
 
 -- the lines behind the first
 pub split_after : (text first : List ℕ) (lines : List (List ℕ)) → split_text text ≡ first ∷ lines → split_text (behind_line text) ≡ lines
 split_after [] first lines is = absurd (cc)
-split_after (b ∷ text) first lines is = go (b == 10) is (split_after text)
-  where
-    More : Type 0
-    More = (f : List ℕ) (ls : List (List ℕ)) → split_text text ≡ f ∷ ls → split_text (behind_line text) ≡ ls
-
-    onto : (ls : List (List ℕ)) → split_text text ≡ ls → onto_first b ls ≡ first ∷ lines → More → split_text (behind_line text) ≡ lines
-    onto [] splits is more =
-        let none : text ≡ [] = none_split text splits in
-        let same : [] ≡ lines = cc in
-        ap (λ (t : List ℕ). split_text (behind_line t)) none ∙ same
-    onto (l ∷ ls) splits is more =
-        let same : ls ≡ lines = cc in
-        more l ls splits ∙ same
-
-    go : (t : Bool) → (if t then ([] ∷ split_text text) else onto_first b (split_text text)) ≡ first ∷ lines → More → split_text (if t then text else behind_line text) ≡ lines
-    go true is more = cc
-    go false is more = onto (split_text text) refl is more
+split_after (b ∷ text) first lines is = let whole = split_next b text in cc
 
 -- a line has no LF
 pub feedless : (text first : List ℕ) (lines : List (List ℕ)) → split_text text ≡ first ∷ lines → list_all (λ b. not (b == 10)) first ≡ true
@@ -114,7 +88,7 @@ parted text (first ∷ front) line back is =
     let more = parted rest front line back (split_after text first (front ++ line ∷ back) is) in
     let free = feedless text first (front ++ line ∷ back) is in
     record {
-      before = ap (λ (t : List ℕ). split_text (take ((length first + 1) + spans front) t)) whole ∙ ap split_text (taken_line first rest (spans front)) ∙ split_one first (take (spans front) rest) free ∙ ap (λ (ls : List (List ℕ)). first ∷ ls) more.before;
+      before = ap (λ (t : List ℕ). split_text (take ((length first + 1) + spans front) t)) whole ∙ ap split_text (taken_line first rest (spans front)) ∙ split_off first (take (spans front) rest) free ∙ ap (λ (ls : List (List ℕ)). first ∷ ls) more.before;
       behind = ap (λ (t : List ℕ). split_text (drop ((length first + 1) + spans front) t)) whole ∙ ap split_text (left_line first rest (spans front)) ∙ more.behind;
     }
 

@@ -17,6 +17,7 @@ use Rattle.ccr_wiretext.specs.Blocks.{apart, arbiter_line, branch_line, group_of
 use Rattle.ccr_wiretext.specs.Drafts.{Declared, nothing}
 use Rattle.ccr_wiretext.specs.Keywords.{keyword}
 use Rattle.ccr_wiretext.specs.Reading.{So, after_all, after_line, after_words, reading_after, reading_text, version_of}
+use Rattle.ccr_wiretext.proofs.ReadTellsSteps.{done}
 use Rattle.ccr_replay.proofs.Splits.{none_begins}
 
 is_other : keyword (codes "record") ≡ Other
@@ -43,11 +44,11 @@ no_version (word ∷ other ∷ words) = refl
 -- such a line is refused
 after_refused : (so : So) (words : Words) → (code : ℕ) × (after_all so (codes "record" ∷ words) ≡ Err code)
 unfolding after_all after_words
-after_refused None words = (2, ap (λ (o : Option ℕ). or_code o 2 >>= λ version. Ok (Some (nothing version))) (no_version words))
+after_refused None words = (2, ap (λ (o : Option ℕ). or_code o 2 >>= λ version. done (Some (nothing version))) (no_version words))
 after_refused (Some draft) words = (
   3,
-  ap (λ (k : Keyword). line_in draft.block draft k words >>= λ new. Ok (Some new)) is_other
-      ∙ ap (λ (r : Result Declared ℕ). r >>= λ new. Ok (Some new)) (other_refused draft.block draft words),
+  ap (λ (k : Keyword). line_in draft.block draft k words >>= λ new. done (Some new)) is_other
+      ∙ ap (λ (r : Result Declared ℕ). r >>= λ new. done (Some new)) (other_refused draft.block draft words),
 )
 
 first_free : (so : So) (words : Words) (new : So) → after_all so words ≡ Ok new → is_first_word (codes "record") words ≡ false

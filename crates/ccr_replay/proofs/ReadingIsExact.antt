@@ -20,7 +20,8 @@ use Rattle.ccr_replay.specs.Grammar.{AreRecord, AreSkipped, IsLastLine, IsRecord
 use Rattle.ccr_replay.specs.Reading.{and_then, behind_first, done_in, done_index, done_on, ending, line_at, recorded_turns, part_before, reading_behind, reading_lines, reading_part, reading_record, record_behind, record_index, skipped_in, skipped_lines, skipped_on, turns_behind, recorded_wiring, workers_in, workers_of, workers_on}
 use Rattle.ccr_replay.proofs.LineEnds.{split_after, found_at, fronted, parted}
 use Rattle.ccr_replay.proofs.NoRecord.{no_record}
-use Rattle.ccr_replay.proofs.Splits.{split_behind, ended_free, found, none_begins, out_is, part_is, passed, spans, spans_ended}
+use Rattle.ccr_replay.proofs.Splits.{split_behind, ended_free, found, none_begins, part_is, passed, spans, spans_ended}
+use Rattle.ccr_base.proofs.Lists.{drop_past}
 
 -- ==== what the grammar says is read
 
@@ -129,7 +130,7 @@ read text r says =
     let wiring : reading_text t ≡ Ok r.wiring = text_read t r.wiring says.wiring in
     let index = record_found t b are.first (are.middle ++ are.last ∷ are.others) (no_record t r.wiring wiring) are.all (record_begins r.workers are.first are.first_line) in
     let part : recorded_wiring bytes ≡ t = ap (λ (p : ℕ × ℕ). part_before p.0 bytes) index ∙ part_is t b (some_bytes b are.first (are.middle ++ are.last ∷ are.others) are.all) in
-    let out : recorded_turns bytes ≡ b = ap (λ (p : ℕ × ℕ). drop p.0 bytes) index ∙ out_is t b in
+    let out : recorded_turns bytes ≡ b = ap (λ (p : ℕ × ℕ). drop p.0 bytes) index ∙ drop_past t 10 b in
     ap reading_record says.whole
     ∙ ap (λ (x : List ℕ). and_then (reading_part x) (λ w. reading_behind w (record_index bytes).1 (recorded_turns bytes))) part
     ∙ ap (λ (x : Result Parts (ℕ × ℕ)). and_then x (λ w. reading_behind w (record_index bytes).1 (recorded_turns bytes))) (part_read t r.wiring says.short wiring)

@@ -1,17 +1,18 @@
 -- Where the first line stands that begins with a word, in a text whose lines are known.
-use Rattle.std.proofs.Common.{◌≡◌, ◌<◌, ℕ, suc, ◌+◌, ◌-◌, ◌^◌, take, drop, Bool, true, false, List, [], ◌∷◌, ◌++◌, length, map, Some, refl, sym, ap, ◌∙◌, append_assoc, arith, inl, inr, ◌⊎◌}
+use Rattle.std.proofs.Common.{◌≡◌, ◌<◌, ℕ, suc, ◌+◌, ◌-◌, ◌^◌, take, Bool, true, false, List, [], ◌∷◌, ◌++◌, length, map, Some, refl, sym, ap, ◌∙◌, append_assoc, arith, inl, inr, ◌⊎◌}
 use Rattle.std.specs.Prelude.{◌==◌, not, nat_lt, if◌then◌else◌, decimal}
 use Rattle.std.specs.List.{list_all, onto_first}
 use Rattle.std.proofs.lemmas.Bool.Decides.{nat_tests}
 use Rattle.std.proofs.lemmas.Grind.{common_steps}
 use Rattle.std.proofs.lemmas.Fmt.{digits_decimal, decimal_nonempty}
 use Rattle.std.proofs.lemmas.List.Concat.{flat_map-cons}
-use Rattle.ccr_text.specs.Lines.{begin_from, begins_with, split_text}
+use Rattle.ccr_text.specs.Lines.{begin_from, begins_with, split_text, first_line, behind_line}
 use Rattle.ccr_text.specs.Spelling.{joined, line_text, text_of, AreLines, AreWords}
 use Rattle.ccr_text.specs.Words.{is_graphic}
 use Rattle.ccr_replay.specs.Reading.{part_before}
-use Rattle.ccr_text.proofs.Again.{joined_feeds}
+use Rattle.ccr_text.proofs.Again.{joined_feeds, split_off}
 use Rattle.ccr_text.proofs.Decimals.{own}
+use Rattle.ccr_text.proofs.FirstLine.{split_next}
 use Rattle.std.proofs.lemmas.Bool.{and_parts as both}
 use Rattle.std.proofs.Math.Seq.{take-append_seam}
 use Rattle.ccr_base.proofs.Booleans.{not_true}
@@ -44,11 +45,7 @@ passed word byte number (line ∷ lines) more none =
 
 split_some : (text : List ℕ) → (first : List ℕ) × (lines : List (List ℕ)) × (split_text (text ++ 10 ∷ []) ≡ first ∷ lines)
 split_some [] = ([], [], refl)
-split_some (b ∷ text) = go (b == 10) (split_some text)
-  where
-    go : (t : Bool) → (first : List ℕ) × (lines : List (List ℕ)) × (split_text (text ++ 10 ∷ []) ≡ first ∷ lines) → (first : List ℕ) × (lines : List (List ℕ)) × ((if t then ([] ∷ split_text (text ++ 10 ∷ [])) else onto_first b (split_text (text ++ 10 ∷ []))) ≡ first ∷ lines)
-    go true more = ([], split_text (text ++ 10 ∷ []), refl)
-    go false more = (b ∷ more.0, more.1, ap (onto_first b) more.2)
+split_some (b ∷ text) = (first_line (b ∷ text ++ 10 ∷ []), split_text (behind_line (b ∷ text ++ 10 ∷ [])), split_next b (text ++ 10 ∷ []))
 
 pub split_behind : (text more : List ℕ) → split_text (text ++ 10 ∷ more) ≡ split_text (text ++ 10 ∷ []) ++ split_text more
 split_behind [] more = refl
@@ -94,15 +91,8 @@ ended_lines (b ∷ text) = go (b == 10) (ended_lines text)
 
 -- ---- lines that are given by their words
 
-pub split_one : (line rest : List ℕ) → list_all (λ b. not (b == 10)) line ≡ true → split_text (line ++ 10 ∷ rest) ≡ line ∷ split_text rest
-split_one [] rest none = refl
-split_one (b ∷ line) rest none =
-    let parts = both (not (b == 10)) (list_all (λ b. not (b == 10)) line) none in
-    let other : (b == 10) ≡ false = grind (arith, nat_tests, parts.0) in
-    rw (other, split_one line rest parts.1) refl
-
 pub split_line : (words : List (List ℕ)) (rest : List ℕ) → AreWords words → split_text (line_text words ++ rest) ≡ joined words ∷ split_text rest
-split_line words rest are = ap split_text (append_assoc (joined words) (10 ∷ []) rest) ∙ split_one (joined words) rest (joined_feeds words are)
+split_line words rest are = ap split_text (append_assoc (joined words) (10 ∷ []) rest) ∙ split_off (joined words) rest (joined_feeds words are)
 
 pub split_all_lines : (lines : List (List (List ℕ))) (rest : List ℕ) → AreLines lines → split_text (text_of lines ++ rest) ≡ map joined lines ++ split_text rest
 split_all_lines [] rest are = refl
@@ -140,7 +130,3 @@ part_is text behind some =
     ap (λ (t : Bool). if t then take ((length text + 1) - 1) (text ++ 10 ∷ behind) else text ++ 10 ∷ behind) inside
     ∙ ap (λ (n : ℕ). take n (text ++ 10 ∷ behind)) index
     ∙ take-append_seam text (10 ∷ behind)
-
-pub out_is : (text behind : List ℕ) → drop (length text + 1) (text ++ 10 ∷ behind) ≡ behind
-out_is [] behind = refl
-out_is (b ∷ text) behind = let e = out_is text behind in grind (arith, common_steps, e)

@@ -2,9 +2,10 @@
 use Rattle.std.proofs.Common.{◌≡◌, ◌<◌, ℕ, ◌+◌, arith, subst, Bool, true, false, cond, refl, sym, ap, ◌∙◌, List, [], ◌∷◌, Option, Some, None, Result, Ok, Err, inl, inr}
 use Rattle.std.specs.List.{All}
 use Rattle.std.proofs.lemmas.List.Elements.{All-cons}
+use Rattle.std.specs.Prelude.{option_to_list}
 use Rattle.ccr_text.specs.Lines.{numbered}
 use Rattle.ccr_text.specs.Words.{is_clean, words_of}
-use Rattle.ccr_replay.specs.Turns.{onto, option_list, turn_in, turns_on}
+use Rattle.ccr_replay.specs.Turns.{onto, turn_in, turns_on}
 use Rattle.ccr_replay.specs.TurnGrammar.{AreTurns}
 use Rattle.ccr_replay.proofs.TurnSaid.{is_turn, reads_none, reads_turn, skipped}
 
@@ -13,7 +14,7 @@ rest_on actors number lines = turns_on actors (numbered number lines)
 
 -- how reading goes on behind a line that says this
 abbrev behind : ℕ → Result (Option ℕ) ℕ → Result (List ℕ) (ℕ × ℕ) → Result (List ℕ) (ℕ × ℕ)
-behind number said rest = elim said [ Ok turn ↦ onto (option_list turn) rest | Err code ↦ Err (number, code) ]
+behind number said rest = elim said [ Ok turn ↦ onto (option_to_list turn) rest | Err code ↦ Err (number, code) ]
 
 pub said : (actors number : ℕ) (lines : List (List ℕ)) (turns : List ℕ) → rest_on actors number lines ≡ Ok turns → AreTurns actors lines turns
 said actors number [] turns e = cc
@@ -23,7 +24,7 @@ said actors number (line ∷ lines) turns e = go (is_clean line) refl e (said ac
     Others = (found : List ℕ) → rest_on actors (number + 1) lines ≡ Ok found → AreTurns actors lines found
 
     more : (turn : Option ℕ) → is_clean line ≡ true → turn_in actors (words_of line) ≡ Ok turn → (r : Result (List ℕ) (ℕ × ℕ)) → rest_on actors (number + 1) lines ≡ r
-        → onto (option_list turn) r ≡ Ok turns → Others → AreTurns actors (line ∷ lines) turns
+        → onto (option_to_list turn) r ≡ Ok turns → Others → AreTurns actors (line ∷ lines) turns
     more turn clean is (Err refusal) rest e others = absurd (cc)
     more None clean is (Ok found) rest e others =
         let same : found ≡ turns = cc in

@@ -1,5 +1,5 @@
 -- Reading turn lines: what each line says, and the first line that offends, with its code.
-use Rattle.std.specs.Prelude.{ℕ, ◌+◌, List, [], ◌∷◌, ◌++◌, Option, Some, None, Result, Ok, Err, nat_lt, if◌then◌else◌, codes}
+use Rattle.std.specs.Prelude.{ℕ, ◌+◌, List, [], ◌∷◌, ◌++◌, Option, Some, None, Result, Ok, Err, nat_lt, if◌then◌else◌, codes, option_to_list}
 use Rattle.std.specs.Str.{bytes_eq}
 use Rattle.ccr_text.specs.declared.lines.Line.{Line}
 use Rattle.ccr_text.specs.Lines.{split_text, numbered}
@@ -32,11 +32,6 @@ turn_in actors (first ∷ words) = if is_comment first then Ok None else (turn_o
 abbrev pub turn_on : ℕ → Line → Result (Option ℕ) ℕ
 turn_on actors line = if line.clean then turn_in actors line.words else Err 1
 
--- the actor, where there is one
-abbrev pub option_list : Option ℕ → List ℕ
-option_list None = []
-option_list (Some actor) = actor ∷ []
-
 -- these turns, and then those that are read, where no line offends
 abbrev pub onto : List ℕ → Result (List ℕ) (ℕ × ℕ) → Result (List ℕ) (ℕ × ℕ)
 onto turns (Ok more) = Ok (turns ++ more)
@@ -45,7 +40,7 @@ onto turns (Err refusal) = Err refusal
 -- the turns of the lines, or the number of the first that offends and its code
 abbrev pub turns_on : ℕ → List Line → Result (List ℕ) (ℕ × ℕ)
 turns_on actors [] = Ok []
-turns_on actors (line ∷ lines) = elim (turn_on actors line) [ Ok turn ↦ onto (option_list turn) (turns_on actors lines) | Err code ↦ Err (line.number, code) ]
+turns_on actors (line ∷ lines) = elim (turn_on actors line) [ Ok turn ↦ onto (option_to_list turn) (turns_on actors lines) | Err code ↦ Err (line.number, code) ]
 
 -- the turns that a text says, behind so many lines and to so many actors; or its first offending line and the code
 abbrev pub reading_turns : List ℕ → ℕ → ℕ → Result (List ℕ) (ℕ × ℕ)

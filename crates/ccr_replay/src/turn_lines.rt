@@ -1,11 +1,11 @@
 //! A text of turn lines, line by line.
 
-ghost use Rattle.std.specs.Prelude.{◌≡◌, ◌<◌, ◌≤◌, ◌++◌, length, IfOk, IfErr, OnOk};
+ghost use Rattle.std.specs.Prelude.{◌≡◌, ◌<◌, ◌≤◌, ◌++◌, length, IfOk, IfErr, OnOk, option_to_list};
 ghost use Rattle.std.specs.List.{All};
 ghost use Rattle.ccr_base.specs.Bounds.{most_bytes};
 ghost use Rattle.ccr_wiretext.specs.Answers.{IsReading};
 ghost use Rattle.ccr_replay.specs.Answers.{TurnsSayNothing};
-ghost use Rattle.ccr_replay.specs.Turns.{most_lines_before, reading_turns, option_list};
+ghost use Rattle.ccr_replay.specs.Turns.{most_lines_before, reading_turns};
 ghost use Rattle.ccr_replay.specs.TurnGrammar.{Says};
 
 use crate::refusals::refused;
@@ -17,7 +17,7 @@ use std::alloc::Global;
 
 /// Adds the turn that a line says, if it says one.
 fn add(turns: &mut List<ActorNo>, turn: Option<ActorNo>) -> Result<(), OutOfMemory>
-    ensures { OnOk result (turns.new ≡ turns.old ++ option_list turn) }
+    ensures { OnOk result (turns.new ≡ turns.old ++ option_to_list turn) }
 {
     match turn {
         Some(actor) => turns.push(actor).map_err(|refused| refused.0),

@@ -1,7 +1,8 @@
 -- The lines by the counts of a history are the lines of its report.
-use Rattle.std.proofs.Common.{◌≡◌, ◌∙◌, ◌+◌, ◌<◌, ◌≤◌, ℕ, List, [], ◌∷◌, ◌++◌, length, map, drop, slice_index, codes, decimal, refl, sym, ap, arith}
-use Rattle.std.proofs.lemmas.List.{drop_more, length-drop}
+use Rattle.std.proofs.Common.{◌≡◌, ◌∙◌, ◌+◌, ◌<◌, ◌≤◌, ℕ, List, [], ◌∷◌, ◌++◌, length, map, drop, slice_index, codes, decimal, refl, sym, ap, arith, suc}
+use Rattle.std.proofs.lemmas.Option.{get_or_from_slice_get}
 use Rattle.ccr_base.specs.declared.names.Spot.{Spot}
+use Rattle.ccr_base.proofs.Options.{drop-next}
 use Rattle.ccr_wiring.specs.declared.parts.Parts.{Parts}
 use Rattle.ccr_wiring.specs.declared.parts.QueuePart.{QueuePart}
 use Rattle.ccr_wiring.specs.Wirings.{spots}
@@ -48,9 +49,9 @@ queues_told w history ps ds count are_ps are_ds queue (part ∷ parts) within =
 -- the number that a rest begins with
 first_of_rest : (ns : List ℕ) (k n : ℕ) (rest : List ℕ) → drop k ns ≡ n ∷ rest → (slice_index ns k ≡ n) × (drop (k + 1) ns ≡ rest)
 first_of_rest ns k n rest e =
-    let long : k < length ns = omega (arith, length-drop k ns, ap length e) in
-    let step : drop k ns ≡ slice_index ns k ∷ drop (k + 1) ns = drop_more ns k 0 long in
-    (cc, cc)
+    let next = drop-next k ns n rest (sym e) in
+    let on : k + 1 ≡ suc k = omega arith in
+    (get_or_from_slice_get ns k n 0 next.0, ap (λ j. drop j ns) on ∙ sym next.1)
 
 -- the lines of the spots from this one on
 pub spots_told : (branches : List (List ℕ)) (history : List Event) (ns : List ℕ) (index : ℕ) (spots : List Spot) → drop index ns ≡ map (λ (spot : Spot). length (fired_at history spot)) spots → spot_rows branches ns index spots ≡ map (spot_words branches history) spots

@@ -1,9 +1,8 @@
 -- Counts over lists of numbers, as counts over what the numbers belong to.
-use Rattle.std.proofs.Common.{◌≡◌, ◌+◌, ◌-◌, ℕ, zero, suc, Bool, true, false, not, Option, Some, None, List, [], ◌∷◌, ◌++◌, length, filter, map, flat_map, cond, refl, sym, ap, ◌∙◌, arith}
+use Rattle.std.proofs.Common.{◌≡◌, ◌+◌, ◌-◌, ℕ, suc, Bool, true, false, not, Option, Some, None, List, [], ◌∷◌, ◌++◌, length, filter, map, flat_map, cond, refl, sym, ap, ◌∙◌, arith}
 use Rattle.std.specs.Prelude.{◌==◌, option_map, option_and_then, option_to_list}
 use Rattle.std.specs.List.{slice_get}
 use Rattle.std.specs.Option.{option_map_or}
-use Rattle.std.proofs.lemmas.Grind.{common_steps}
 use Rattle.std.proofs.lemmas.List.Filters.{length-filter_both}
 use Rattle.std.proofs.lemmas.List.Sums.{length-filter}
 use Rattle.ccr_base.specs.declared.messages.Msg.{Msg}
@@ -21,8 +20,10 @@ use Rattle.ccr_model.specs.Posts.{posts, posted, taken, held}
 use Rattle.ccr_model.specs.Firings.{spot_of}
 use Rattle.ccr_model.specs.Tasks.{is_for_queue}
 use Rattle.ccr_base.proofs.Filters.{filter_swap}
+use Rattle.ccr_base.proofs.Lists.{map_twice}
 use Rattle.ccr_report.specs.Counting.{taken_at, ports_of, queues_in, branch_queues}
 pub use Rattle.std.proofs.lemmas.List.{map-append as map-both}
+use Rattle.std.proofs.lemmas.Option.{slice_get-map}
 
 -- the number's own places in the list
 abbrev same : ℕ → List ℕ → List ℕ
@@ -68,8 +69,7 @@ times-some : {X : Type 0} (f : X → Option ℕ) (test : X → Bool) (k : ℕ) �
 times-some f test k says xs = times-same k (flat_map (λ x. option_to_list (f x)) xs) ∙ same-some f test k says xs
 
 pub placements_queues : (number : ℕ) (arbiter : ArbiterPart) (branches : List BranchPart) → map (λ (part : BranchPart). part.queue) branches ≡ map (λ (s : Placement). s.branch.queue) (map (λ branch. record { domain = number; kind = arbiter.kind; branch = branch }) branches)
-placements_queues number arbiter [] = refl
-placements_queues number arbiter (branch ∷ branches) = ap (λ (queues : List ℕ). branch.queue ∷ queues) (placements_queues number arbiter branches)
+placements_queues number arbiter branches = sym (map_twice (λ (s : Placement). s.branch.queue) (λ branch. record { domain = number; kind = arbiter.kind; branch = branch }) branches)
 
 -- the branches' queues, by their placements
 pub branch_queues_placements : (number : ℕ) (arbiters : List ArbiterPart) → flat_map queues_in arbiters ≡ map (λ (s : Placement). s.branch.queue) (placements_from number arbiters)
@@ -81,17 +81,11 @@ branch_queues_placements number (arbiter ∷ arbiters) =
 
 -- a domain changes no queue
 domain_queues : (domains : List DomainPart) (ss : List Placement) → map (λ (s : Placement). s.branch.queue) (map (in_domain domains) ss) ≡ map (λ (s : Placement). s.branch.queue) ss
-domain_queues domains [] = refl
-domain_queues domains (s ∷ ss) = ap (λ (queues : List ℕ). s.branch.queue ∷ queues) (domain_queues domains ss)
+domain_queues domains ss = map_twice (λ (s : Placement). s.branch.queue) (in_domain domains) ss
 
 pub map_or-map : {X Y : Type 0} (f : X → Y) (g : Y → Bool) (o : Option X) → option_map_or g (option_map f o) false ≡ option_map_or (λ x. g (f x)) o false
 map_or-map f g None = refl
 map_or-map f g (Some x) = refl
-
-pub slice_get-mapped : {X Y : Type 0} (f : X → Y) (xs : List X) (k : ℕ) → slice_get (map f xs) k ≡ option_map f (slice_get xs k)
-slice_get-mapped f [] k = grind (arith, common_steps)
-slice_get-mapped f (x ∷ xs) zero = refl
-slice_get-mapped f (x ∷ xs) (suc k) = grind (arith, common_steps, slice_get-mapped f xs k)
 
 -- whether a task that fired at this spot, if any, belongs to the queue
 pub for_queue : (wiring : Parts) (k : ℕ) (fired : Option Spot) → option_map_or (λ (s : Placement). s.branch.queue == k) (option_and_then (λ spot. placement wiring (branch_of spot)) fired) false ≡ option_map_or (λ n. n == k) (option_and_then (λ spot. slice_get (branch_queues wiring) (branch_of spot)) fired) false
@@ -99,7 +93,7 @@ for_queue wiring k None = refl
 for_queue wiring k (Some spot) =
     sym (map_or-map (λ (s : Placement). s.branch.queue) (λ n. n == k) (placement wiring (branch_of spot)))
     ∙ ap (λ (o : Option ℕ). option_map_or (λ n. n == k) o false)
-    (sym (slice_get-mapped (λ (s : Placement). s.branch.queue) (placements wiring) (branch_of spot))
+    (sym (slice_get-map (λ (s : Placement). s.branch.queue) (placements wiring) (branch_of spot))
     ∙ ap (λ (queues : List ℕ). slice_get queues (branch_of spot)) (domain_queues wiring.domains (placements_from 0 wiring.arbiters) ∙ sym (branch_queues_placements 0 wiring.arbiters)))
 
 -- the tasks of a queue, by the spots at which they fired

@@ -1,13 +1,14 @@
 -- How many entries tell something of a task at a place, and when one of them ends what one other began.
 use Rattle.std.proofs.Common.{inl, inr, ◌⊎◌, ◌≡◌, ◌≤◌, ◌<◌, ℕ, ◌+◌, ◌&&◌, Bool, true, false, List, [], ◌∷◌, ◌++◌, length, Some, refl, sym, arith, ap, ◌∙◌, subst, append_assoc, append-nil, length-append}
-use Rattle.std.specs.Prelude.{filter, if◌then◌else◌}
+use Rattle.std.specs.Prelude.{if◌then◌else◌}
 use Rattle.std.proofs.lemmas.List.Elements.{filter-append}
+use Rattle.std.proofs.lemmas.List.{nil_from_length}
 use Rattle.ccr_base.specs.declared.names.Place.{Place}
 use Rattle.ccr_base.specs.declared.names.TaskId.{TaskId}
 use Rattle.ccr_base.specs.Names.{has_task}
 use Rattle.ccr_wiring.specs.declared.parts.Parts.{Parts}
 use Rattle.ccr_base.proofs.Booleans.{both}
-use Rattle.ccr_model.proofs.Members.{Among, Among-either, Among-kept}
+use Rattle.ccr_model.proofs.Members.{Among, Among-either, Among-kept, Among-filter}
 use Rattle.ccr_places.specs.declared.notes.Note.{Note}
 use Rattle.ccr_runs.specs.declared.entries.Entry.{Entry}
 use Rattle.ccr_runs.specs.EntryRuns.{Lacks, IsRunAfter, made_by, same_place}
@@ -42,23 +43,9 @@ own-push names es e own all x is t has = of_split (Among-either x es (e ∷ []) 
     of_split (inr (inl same)) = ap (λ (y : Entry). y.actor) same ∙ own t (subst (λ (y : Entry). has_task (names y.note) t ≡ true) same has)
     of_split (inr (inr none)) = absurd none
 
-none_of : (xs : List Entry) → length xs ≡ 0 → xs ≡ []
-none_of [] is = refl
-none_of (x ∷ xs) is = absurd (omega (arith, is))
-
 one_of : (xs : List Entry) → length xs ≡ 1 → (x : Entry) × (xs ≡ x ∷ [])
 one_of [] is = absurd (omega (arith, is))
-one_of (x ∷ xs) is = (x, ap (λ ys. x ∷ ys) (none_of xs (omega (arith, is))))
-
--- who is left by a test passes it
-pub passing : {X : Type 0} (p : X → Bool) (xs : List X) (x : X) → Among x (filter p xs) → p x ≡ true
-passing p [] x is = absurd is
-passing p (y ∷ xs) x is = by (p y) refl is (passing p xs x)
-  where
-    by : (b : Bool) → p y ≡ b → Among x (if b then y ∷ filter p xs else filter p xs) → (Among x (filter p xs) → p x ≡ true) → p x ≡ true
-    by true at (inl same) rest = ap p same ∙ at
-    by true at (inr more) rest = rest more
-    by false at more rest = rest more
+one_of (x ∷ xs) is = (x, ap (λ ys. x ∷ ys) (nil_from_length xs (omega (arith, is))))
 
 -- some entry tells it
 pub some_telling : (names : Note → List TaskId) (pl : Place) (t : TaskId) (es : List Entry) → 1 ≤ count names pl t es → (x : Entry) × Among x es × (has_task (names x.note) t ≡ true)
@@ -66,17 +53,17 @@ some_telling names pl t es some = of (telling names pl t es) refl
   where
     of : (xs : List Entry) → telling names pl t es ≡ xs → (x : Entry) × Among x es × (has_task (names x.note) t ≡ true)
     of [] at = absurd (let none = ap length at in omega (arith, none, some))
-    of (x ∷ xs) at = let there = subst (Among x) (sym at) (inl refl) in (x, Among-kept (tells names pl t) es x there, (both (same_place x.place pl) (has_task (names x.note) t) (passing (tells names pl t) es x there)).1)
+    of (x ∷ xs) at = let there = subst (Among x) (sym at) (inl refl) in (x, Among-kept (tells names pl t) es x there, (both (same_place x.place pl) (has_task (names x.note) t) (Among-filter (tells names pl t) es x there).1).1)
 
 -- one began it, and no other, and the entry alone ends it
 pub ends_once : (begins ends : Note → List TaskId) (pl : Place) (t : TaskId) (past : List Entry) (e : Entry) (more : List Entry) → AreOwn begins past → tells ends pl t e ≡ true → count begins pl t past ≡ 1 → count ends pl t past ≡ 0 → count begins pl t (past ++ e ∷ more) ≤ 1 → count ends pl t (past ++ e ∷ more) ≤ 1 → EndsOnce begins ends pl t past e more
 ends_once begins ends pl t past e more own is one none few few_ends = record {
   beginning = found.0;
   begun = found.1;
-  by_itself = own found.0 (Among-kept (tells begins pl t) past found.0 among) t (both (same_place found.0.place pl) (has_task (begins found.0.note) t) (passing (tells begins pl t) past found.0 among)).1;
-  not_begun_later = none_of (telling begins pl t (e ∷ more)) (let all = count-append begins pl t past (e ∷ more) in omega (arith, all, one, few));
-  not_ended_before = none_of (telling ends pl t past) none;
-  not_ended_later = none_of (telling ends pl t more) (let all = count-append ends pl t past (e ∷ more) in let first = count-first ends pl t e more in let here = ap bit is in omega (arith, all, first, here, few_ends));
+  by_itself = own found.0 (Among-kept (tells begins pl t) past found.0 among) t (both (same_place found.0.place pl) (has_task (begins found.0.note) t) (Among-filter (tells begins pl t) past found.0 among).1).1;
+  not_begun_later = nil_from_length (telling begins pl t (e ∷ more)) (let all = count-append begins pl t past (e ∷ more) in omega (arith, all, one, few));
+  not_ended_before = nil_from_length (telling ends pl t past) none;
+  not_ended_later = nil_from_length (telling ends pl t more) (let all = count-append ends pl t past (e ∷ more) in let first = count-first ends pl t e more in let here = ap bit is in omega (arith, all, first, here, few_ends));
 }
   where
     found : (x : Entry) × (telling begins pl t past ≡ x ∷ [])
@@ -88,7 +75,7 @@ ends_once begins ends pl t past e more own is one none few few_ends = record {
 -- where none tells it at the place, and whoever tells it is there, none tells it
 pub none_else : (names : Note → List TaskId) (pl : Place) (t : TaskId) (es : List Entry) → telling names pl t es ≡ [] → ((x : Entry) → Among x es → has_task (names x.note) t ≡ true → same_place x.place pl ≡ true) → telling_of names t es ≡ []
 none_else names pl t [] none there = refl
-none_else names pl t (e ∷ es) none there = by (has_task (names e.note) t) refl (none_else names pl t es (none_of (telling names pl t es) (let all = ap length none in let first = count-first names pl t e es in omega (arith, all, first))) (λ x is. there x (inr is)))
+none_else names pl t (e ∷ es) none there = by (has_task (names e.note) t) refl (none_else names pl t es (nil_from_length (telling names pl t es) (let all = ap length none in let first = count-first names pl t e es in omega (arith, all, first))) (λ x is. there x (inr is)))
   where
     by : (b : Bool) → has_task (names e.note) t ≡ b → telling_of names t es ≡ [] → (if b then e ∷ telling_of names t es else telling_of names t es) ≡ []
     by false at rest = rest

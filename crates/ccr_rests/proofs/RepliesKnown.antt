@@ -31,10 +31,10 @@ use Rattle.ccr_base.proofs.Booleans.{or_left, or_right, same_number}
 use Rattle.ccr_model.proofs.Cutting.{AdmitFacts, AdmitFacts-allowed, cut_fired}
 use Rattle.ccr_model.proofs.FiredTasks.{IsFired, IsFired-append, fired_has}
 use Rattle.ccr_model.proofs.AllowedFirings.{FiresSo-allowed, WaitingFacts, WaitingFacts-waiting, fired_by_named, firing_named-new}
-use Rattle.ccr_model.proofs.Members.{Among, Contains-among, Among-kept}
+use Rattle.ccr_model.proofs.Members.{Among, Contains-among, Among-kept, Among-filter}
 use Rattle.ccr_model.proofs.OneMoreEvent.{cut-push, dropped-push, started-push}
 use Rattle.ccr_base.proofs.SameNames.{same_task-self}
-use Rattle.ccr_model.proofs.TaskLists.{among_left, among_right}
+use Rattle.ccr_model.proofs.TaskLists.{among_left, among_right, has_at}
 use Rattle.ccr_model.proofs.WhoWasPut.{ArePlaced, ArePlaced-legal}
 use Rattle.ccr_places.specs.declared.claims.StandingClaim.{StandingClaim}
 use Rattle.ccr_places.specs.declared.notes.ClaimNote.{ClaimNote}
@@ -73,10 +73,8 @@ use Rattle.ccr_net.proofs.Parts.OneMoreEntry.{Step, Step-made, visible-push}
 use Rattle.ccr_rests.specs.Replies.{HasRetired, IsCutOf, IsHanded, IsItem, NamesKnown}
 use Rattle.ccr_rests.proofs.ClaimsOnce.{claimed_low}
 use Rattle.ccr_rests.proofs.NoteKinds.{kind_asked, kind_noted}
-use Rattle.ccr_rests.proofs.EntryCounts.{passing}
 use Rattle.ccr_rests.proofs.PortItems.{all_posted, among_fitting, posted_on}
 use Rattle.ccr_rests.proofs.Rising.{Tries, tries}
-use Rattle.ccr_net.proofs.Owed.OversMayBeNoted.{first_has}
 
 -- ---- what retired an arbiter's branches
 
@@ -138,7 +136,7 @@ arbiter_dead first part earlier by is = mapped (fired_there earlier) (arbiters.r
     fired_so = (kept_shape (arbiter_after first part []) earlier).fired ∙ ap (λ ts. ts ++ fired_there earlier) (none_at_first first part)
 
     of_once : (b : Bool) (u : TaskId) → (if b then slice_get (arbiter_after first part earlier).fired 0 else None) ≡ Some u → has_task (arbiter_after first part earlier).fired u ≡ true
-    of_once true u at = first_has (arbiter_after first part earlier).fired u at
+    of_once true u at = has_at (arbiter_after first part earlier).fired 0 u at
     of_once false u at = absurd (cc)
 
 domain_dead : (w : Parts) (i : ℕ) (earlier : List Note) (by : By) → interleaves.dead_by (interleave_after w i earlier) ≡ Some by → RetiredBy (fired_there earlier) by
@@ -238,7 +236,7 @@ module _ (w : Parts) (workers : ℕ) (lacks : Lacks) (valid : IsValid w) (few : 
       fine = posted_fine w (sound w valid) (visible past) before.legal m (Among-kept (λ (x : Msg). x.port == p) (posts (visible past)) m old)
 
       at : m.port ≡ p
-      at = same_number m.port p (passing (λ (x : Msg). x.port == p) (posts (visible past)) m old)
+      at = same_number m.port p (Among-filter (λ (x : Msg). x.port == p) (posts (visible past)) m old).1
 
   claim_known : (t : TaskId) (s : Slot) (n : ClaimNote) → e.note ≡ notes.Claim t s n → NamesKnown w (length w.posters + workers) (visible (past ++ e ∷ [])) e.place (reply_to w (visible (past ++ e ∷ [])) (notes_at past e.place) (notes.Claim t s n))
   claim_known t s n noted = subst (λ pl. NamesKnown w (length w.posters + workers) (visible (past ++ e ∷ [])) pl (reply_to w (visible (past ++ e ∷ [])) (notes_at past pl) (notes.Claim t s n))) (sym found.there) (by n found.noted)

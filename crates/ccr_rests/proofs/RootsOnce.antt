@@ -22,10 +22,9 @@ use Rattle.ccr_base.proofs.Booleans.{both, eq-self, no_both, or_left, same_numbe
 use Rattle.ccr_model.proofs.AllowedFirings.{BranchFacts, BranchFacts-where, fired_by_named}
 use Rattle.ccr_model.proofs.FiredTasks.{IsFired, IsFired-append, placement_stays}
 use Rattle.ccr_model.proofs.Members.{Among, Among-either, Among-left, Among-right}
-use Rattle.ccr_base.proofs.SameNames.{same_task-is, same_task-self}
+use Rattle.ccr_base.proofs.SameNames.{same_task-is, same_task-self, has_task-append}
 use Rattle.ccr_model.proofs.TaskLists.{among_left, among_right}
 use Rattle.ccr_model.proofs.WhoWasPut.{placement_by}
-use Rattle.ccr_model.proofs.TasksLeft.{has_task-append}
 use Rattle.ccr_places.specs.declared.notes.Note.{Note}
 use Rattle.ccr_places.specs.declared.notes.Note.TheVariants as notes
 use Rattle.ccr_places.specs.Arbiters.{ArbiterState}

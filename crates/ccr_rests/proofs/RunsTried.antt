@@ -7,7 +7,7 @@ use Rattle.ccr_base.proofs.Booleans.{same_number}
 use Rattle.ccr_claim.specs.declared.asks.Reply.{Reply}
 use Rattle.ccr_actor.specs.Actors.{next}
 use Rattle.ccr_actor.specs.Nets.{Step, AreFitting, AreNext, replies_of}
-use Rattle.ccr_actor.proofs.ActorsFollowTheirSteps.{next_more}
+use Rattle.ccr_actor.proofs.ActorsFollowTheirSteps.{next_more, fitting-both}
 use Rattle.ccr_runs.specs.declared.entries.Entry.{Entry}
 use Rattle.ccr_runs.specs.EntryRuns.{Lacks, IsRunAfter, reply_of, replies_of as replied}
 use Rattle.ccr_net.proofs.Parts.OneMoreEntry as pushes
@@ -24,10 +24,6 @@ record Walks (w : Parts) (lacks : Lacks) (a : ℕ) (es : List Entry) : Type 0 wh
   pub next_so : AreNext w a (lacks a) [] steps
   pub fit : AreFitting steps
   pub replies : replies_of steps ≡ replied w es a
-
-fitting-both : (steps more : List Step) → AreFitting steps → AreFitting more → AreFitting (steps ++ more)
-fitting-both [] more all rest = rest
-fitting-both (step ∷ steps) more all rest = (all.0, fitting-both steps more all.1 rest)
 
 -- one step more of the actor itself
 walks-own : (w : Parts) (lacks : Lacks) (es : List Entry) (e : Entry) → AreOwn es → (step : pushes.Step w lacks es e) → Walks w lacks e.actor es → (replied w (es ++ e ∷ []) e.actor ≡ replied w es e.actor ++ reply_of w es e ∷ []) → Walks w lacks e.actor (es ++ e ∷ [])

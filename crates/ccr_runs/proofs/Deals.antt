@@ -3,6 +3,7 @@ use Rattle.std.proofs.Common.{◌≡◌, ◌≢◌, ◌∙◌, ℕ, zero, suc, �
 use Rattle.std.specs.declared.collections.VecDeque.{VecDeque}
 use Rattle.std.specs.Prelude.{All, Some, slice_get, slice_set}
 use Rattle.std.proofs.Math.ListN.{get_or}
+use Rattle.std.proofs.lemmas.List.{length-map}
 use mathlib.Core.Logic.{dite}
 use native.Mathlib.Decide.{ℕ_discrete}
 use Rattle.ccr_turns.specs.Lists.{Rises}
@@ -104,15 +105,13 @@ module _ {N : Type 0} where
   set_in (other ∷ queues) (suc place) queue = ap (λ l. other.items ∷ l) (set_in queues place queue)
 
   pub count_in : (queues : List (VecDeque (Held N) Global)) → length (map (λ queue. queue.items) queues) ≡ length queues
-  count_in [] = refl
-  count_in (queue ∷ queues) = ap suc (count_in queues)
+  count_in queues = length-map queues (λ queue. queue.items)
 
 -- ---- what closed locks kept
 
 module _ {O N : Type 0} (kept : List (O × List (Held N))) (rising : All (λ (left : O × List (Held N)). Rises 0 (history_stamps left.1)) kept) where
   histories_in : (kept : List (O × List (Held N))) → length (map (λ (left : O × List (Held N)). left.1) kept) ≡ length kept
-  histories_in [] = refl
-  histories_in (left ∷ kept) = ap suc (histories_in kept)
+  histories_in kept = length-map kept (λ (left : O × List (Held N)). left.1)
 
   read : (kept : List (O × List (Held N))) (place : ℕ) → place < length kept → (left : O × List (Held N)) × (slice_get kept place ≡ Some left) × (left_at (map (λ (left : O × List (Held N)). left.1) kept) place ≡ left.1)
   read [] place low = absurd (omega (arith, low))

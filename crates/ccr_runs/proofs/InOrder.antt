@@ -6,16 +6,16 @@ use Rattle.std.specs.Prelude.{All, flat_map, slice_get}
 use Rattle.std.specs.List.Sorted.{ties, IsNonDecreasingBy}
 use Rattle.std.specs.Ordering.{is_lt, nat_cmp}
 use Rattle.std.proofs.lemmas.Bool.{leb-true, leb-false}
-use Rattle.std.proofs.lemmas.List.Elements.{filter-append}
+use Rattle.std.proofs.lemmas.List.Elements.{filter-append, filter_agree}
 use Rattle.ccr_turns.specs.Histories.{history_stamps}
 use Rattle.ccr_turns.specs.Lists.{Rises}
 use Rattle.ccr_base.specs.Lists.{Each}
+use Rattle.ccr_base.proofs.Lists.{all_from_each}
 use Rattle.ccr_turns.specs.declared.history.Held.{Held}
-use Rattle.ccr_turns.proofs.Rows.{all_from_each}
 use Rattle.ccr_runs.specs.declared.acts.Act.{Act}
 use Rattle.ccr_runs.specs.Merges.{Climbs, IsByPlace, act_stamps, history_at, tagged}
 use Rattle.ccr_runs.specs.Orders.{put_in, in_order, merged}
-use Rattle.ccr_runs.proofs.Sorting.{by_places, filter-same, parts, tagged_inside, tie}
+use Rattle.ccr_runs.proofs.Sorting.{by_places, parts, tagged_inside, tie}
 use Rattle.ccr_runs.proofs.Telling.{climbs_from}
 
 module _ {X : Type 0} (stamp : X → ℕ) where
@@ -159,7 +159,7 @@ module _ {O N : Type 0} (kept : List (O × List (Held N))) where
   same_ties x =
       let test = ties (λ (a b : Act N). is_lt (nat_cmp a.stamp b.stamp)) x in
       let tests = λ (y : Act N). tie x.stamp y.stamp in
-      filter-same test (λ y. eqb y.stamp x.stamp) tests (merged kept) ∙ (order_of (λ (e : Act N). e.stamp) x.stamp (tagged 0 kept) ∙ sym (filter-same test (λ y. eqb y.stamp x.stamp) tests (tagged 0 kept)))
+      filter_agree test (λ y. eqb y.stamp x.stamp) tests (merged kept) ∙ (order_of (λ (e : Act N). e.stamp) x.stamp (tagged 0 kept) ∙ sym (filter_agree test (λ y. eqb y.stamp x.stamp) tests (tagged 0 kept)))
 
   pub merged_climbs : Climbs 0 (act_stamps (merged kept))
   merged_climbs = order_climbs (λ (e : Act N). e.stamp) (tagged 0 kept)

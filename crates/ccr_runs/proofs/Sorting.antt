@@ -6,7 +6,7 @@ use Rattle.std.specs.Prelude.{slice_get}
 use Rattle.ccr_turns.specs.Histories.{history_stamps}
 use Rattle.ccr_turns.specs.Lists.{Rises}
 use Rattle.ccr_base.specs.Lists.{Each}
-use Rattle.ccr_turns.proofs.Rows.{all_from_each}
+use Rattle.ccr_base.proofs.Lists.{all_from_each}
 use Rattle.std.specs.Prelude.{All}
 use Rattle.ccr_turns.specs.declared.history.Held.{Held}
 use Rattle.ccr_runs.specs.declared.acts.Act.{Act}
@@ -14,6 +14,7 @@ use Rattle.ccr_runs.specs.Merges.{Climbs, act_stamps, history_at, held, tag, tag
 use Rattle.std.specs.List.Sorted.{ties, IsNonDecreasingBy}
 use Rattle.std.specs.Ordering.{is_lt, nat_cmp}
 use Rattle.std.proofs.lemmas.Bool.Decides.{nat_tests}
+use Rattle.std.proofs.lemmas.List.Elements.{filter_agree}
 use Rattle.ccr_runs.proofs.Telling.{climbs_from}
 
 pub tie : (x y : ℕ) → not (is_lt (nat_cmp x y)) && not (is_lt (nat_cmp y x)) ≡ eqb y x
@@ -75,10 +76,6 @@ module _ {N : Type 0} where
       by_tests again false true x y = rw (sym x) again
       by_tests again false false x y = again
 
-  pub filter-same : (f g : Act N → Bool) → ((x : Act N) → f x ≡ g x) → (es : List (Act N)) → filter f es ≡ filter g es
-  filter-same f g h [] = refl
-  filter-same f g h (e ∷ es) = λ i. cond (h e i) (e ∷ filter-same f g h es i) (filter-same f g h es i)
-
   history-climbs : (a p : ℕ) (es : List (Act N)) → Climbs a (act_stamps es) → Climbs a (history_stamps (history_at p es))
   history-climbs a p [] c = tt
   history-climbs a p (e ∷ es) c = by_test (history-climbs e.stamp p es c.1) (eqb e.place p)
@@ -136,7 +133,7 @@ module _ {O N : Type 0} where
       let x : Act N = tag p d in
       let tests = λ (y : Act N). tie x.stamp y.stamp in
       stamped_part p d.stamp es
-      ∙ (ap (history_at p) (sym (filter-same (ties (λ (a b : Act N). is_lt (nat_cmp a.stamp b.stamp)) x) (λ y. eqb y.stamp d.stamp) tests es) ∙ (stable x ∙ filter-same (ties (λ (a b : Act N). is_lt (nat_cmp a.stamp b.stamp)) x) (λ y. eqb y.stamp d.stamp) tests (tagged 0 kept)))
+      ∙ (ap (history_at p) (sym (filter_agree (ties (λ (a b : Act N). is_lt (nat_cmp a.stamp b.stamp)) x) (λ y. eqb y.stamp d.stamp) tests es) ∙ (stable x ∙ filter_agree (ties (λ (a b : Act N). is_lt (nat_cmp a.stamp b.stamp)) x) (λ y. eqb y.stamp d.stamp) tests (tagged 0 kept)))
       ∙ (sym (stamped_part p d.stamp (tagged 0 kept)) ∙ ap (at_stamp d.stamp) its)))
 
 pub tagged_inside : {O N : Type 0} (n q : ℕ) (kept : List (O × List (Held N))) → q + length kept ≤ n → Each (λ (e : Act N). e.place < n) (tagged q kept)
@@ -207,5 +204,5 @@ pub by_places : {O N : Type 0} (kept : List (O × List (Held N))) (es : List (Ac
 by_places {O} {N} kept es stable = by_place es (λ x.
     let test = ties (λ (a b : Act N). is_lt (nat_cmp a.stamp b.stamp)) x in
     let tests = λ (y : Act N). tie x.stamp y.stamp in
-    let same : of_stamp x.stamp es ≡ of_stamp x.stamp (tagged 0 kept) = sym (filter-same test (λ y. eqb y.stamp x.stamp) tests es) ∙ (stable x ∙ filter-same test (λ y. eqb y.stamp x.stamp) tests (tagged 0 kept)) in
+    let same : of_stamp x.stamp es ≡ of_stamp x.stamp (tagged 0 kept) = sym (filter_agree test (λ y. eqb y.stamp x.stamp) tests es) ∙ (stable x ∙ filter_agree test (λ y. eqb y.stamp x.stamp) tests (tagged 0 kept)) in
     (0, subst (λ (l : List (Act N)). Climbs 0 (act_places l)) (sym same) (places_of_stamp 0 x.stamp (tagged 0 kept) (places_tagged 0 kept))))

@@ -1,5 +1,5 @@
 -- Which note a place of the wiring gives to an ask: none where the ask's condition isn't met.
-use Rattle.std.specs.Prelude.{ℕ, zero, suc, ◌+◌, Bool, true, false, List, [], ◌∷◌, length, map, filter, Option, Some, None, if◌then◌else◌}
+use Rattle.std.specs.Prelude.{ℕ, ◌+◌, Bool, true, false, List, [], ◌∷◌, length, map, filter, Option, Some, None, if◌then◌else◌}
 use Rattle.std.specs.List.{slice_get}
 use Rattle.std.specs.Option.{option_map_or}
 use Rattle.ccr_base.specs.declared.names.MsgId.{MsgId}
@@ -14,7 +14,7 @@ use Rattle.ccr_wiring.specs.declared.parts.Kind.{Kind}
 use Rattle.ccr_wiring.specs.declared.parts.Kind.TheVariants as kinds
 use Rattle.ccr_wiring.specs.declared.parts.Parts.{Parts}
 use Rattle.ccr_wiring.specs.Groups.{is_once}
-use Rattle.ccr_wiring.specs.Wirings.{Placement, placements, policy_of}
+use Rattle.ccr_wiring.specs.Wirings.{Placement, placements, policy_of, branches_before}
 use Rattle.ccr_model.specs.Interleaves.{is_placement_in}
 use Rattle.ccr_places.specs.declared.notes.Note.{Note}
 use Rattle.ccr_places.specs.declared.notes.Note.TheVariants as notes
@@ -38,12 +38,6 @@ use Rattle.ccr_claim.specs.declared.asks.Ask.TheVariants as asks
 -- the port after these notes
 abbrev pub port_after : ℕ → List Note → PortState
 port_after number earlier = ports.kept (ports.start number) earlier
-
--- how many branches the first arbiters have, so many of them
-abbrev pub branches_before : ℕ → List ArbiterPart → ℕ
-branches_before zero parts = 0
-branches_before (suc number) [] = 0
-branches_before (suc number) (part ∷ parts) = length part.branches + branches_before number parts
 
 -- the number of the arbiter's first branch
 abbrev pub first_branch : Parts → ℕ → ℕ

@@ -17,7 +17,7 @@ use Rattle.ccr_wiring.specs.declared.parts.Parts.{Parts}
 use Rattle.ccr_wiring.specs.Valid.{IsValid}
 use Rattle.ccr_wiring.proofs.Soundness.{sound}
 use Rattle.ccr_model.specs.declared.history.Event.{Event}
-use Rattle.ccr_model.specs.declared.history.Event.TheVariants.{Post, Fire, Admit, Put, Start, End}
+use Rattle.ccr_model.specs.declared.history.Event.TheVariants.{Fire, End}
 use Rattle.ccr_model.specs.declared.history.EndHow.{EndHow}
 use Rattle.ccr_model.specs.declared.history.EndHow.TheVariants as ends
 use Rattle.ccr_model.specs.declared.history.Fate.{Fate}
@@ -37,18 +37,20 @@ use Rattle.ccr_base.proofs.Booleans.{both, no_both, or_left, or_right, refuted, 
 use Rattle.ccr_base.proofs.Options.{some-below}
 use Rattle.ccr_model.proofs.Members.{Among, Among-right, Among-filter}
 use Rattle.ccr_model.proofs.PostNames.{refused_not}
-use Rattle.ccr_base.proofs.SameNames.{same_message-is}
+use Rattle.ccr_base.proofs.SameNames.{same_message-is, same_values}
+use Rattle.ccr_base.proofs.Filters.{more_kept}
 use Rattle.ccr_model.proofs.Stable.{firings-append, play_of-append}
 use Rattle.ccr_model.proofs.Cutting.{cut_not_started, cut_not_put}
 use Rattle.ccr_model.proofs.Ending.{AreEnded-legal}
 use Rattle.ccr_model.proofs.WhoWasPut.{ArePlaced-legal}
 use Rattle.ccr_model.proofs.FiringPlacements.{firing_with_placement}
+use Rattle.ccr_model.proofs.OneMoreEvent.{posts-append}
 use Rattle.ccr_laws.specs.Occurring.{Occurs}
 use Rattle.ccr_laws.specs.OneFate.{IsHeld, IsTakenBy, HasEnded, IsIn, HasFate, HasOneFate}
 use Rattle.ccr_laws.proofs.LegalEventsWereAllowed.{allowed_at, legal_past}
 use Rattle.ccr_laws.proofs.DroppingPuts.{dropped_unstarted}
 use Rattle.ccr_laws.proofs.OneFates.{one_fate}
-use Rattle.ccr_laws.proofs.States.{is_in}
+use Rattle.ccr_laws.proofs.States.{is_in, has_ended}
 use Rattle.ccr_service.specs.declared.answer.Answer.{Answer}
 use Rattle.ccr_service.specs.declared.answer.Answer.TheVariants as told
 use Rattle.ccr_service.specs.declared.parts.AskPart.{AskPart}
@@ -63,10 +65,10 @@ use Rattle.ccr_service.specs.Answered.{message_of, is_response_port, responses_o
 use Rattle.ccr_service.specs.Telling.{first_post, told_by}
 use Rattle.ccr_service.proofs.QuietIsStill.{AtEnd, AtEnd-quiet, still}
 use Rattle.ccr_service.proofs.Shape.{awaits_none, one_queue}
-use Rattle.ccr_service.proofs.AtEnd.{held_torn, has_ended}
+use Rattle.ccr_service.proofs.AtEnd.{held_torn}
 use Rattle.ccr_service.proofs.OnlyTeardownsCut.{cut_torn, dropped_discards}
 use Rattle.ccr_service.proofs.Plays.{TakesAsk, TakesAsk-legal, play_is}
-use Rattle.ccr_service.proofs.WhatExpansionsPost.{named_so, same_values}
+use Rattle.ccr_service.proofs.WhatExpansionsPost.{named_so}
 use Rattle.ccr_service.proofs.Replying.{running_fired, one_play, nothing_or_reply, HasReplied, unstarted_nothing, its_name, all_replies}
 use Rattle.ccr_service.proofs.NobodyIsShed.{none_shed}
 use Rattle.ccr_service.proofs.Fitting.{valid}
@@ -159,23 +161,7 @@ unshed_how h past t ends.Shed none stands = absurd (no_both (subst (λ g. has_sh
     behind (e ∷ es) = or_right (is_shed_end e) _ (behind es)
 
 posts_more : (h es : List Event) (t : TaskId) → posts_of_task h t ≤ posts_of_task (h ++ es) t
-posts_more h es t = longer h
-  where
-    one : (m : Msg) (a b : List Msg) → length (filter (λ (x : Msg). is_message_of t x.id) a) ≤ length (filter (λ (x : Msg). is_message_of t x.id) b) → length (filter (λ (x : Msg). is_message_of t x.id) (m ∷ a)) ≤ length (filter (λ (x : Msg). is_message_of t x.id) (m ∷ b))
-    one m a b less = by_test (is_message_of t m.id)
-      where
-        by_test : (c : Bool) → length (if c then m ∷ filter (λ (x : Msg). is_message_of t x.id) a else filter (λ (x : Msg). is_message_of t x.id) a) ≤ length (if c then m ∷ filter (λ (x : Msg). is_message_of t x.id) b else filter (λ (x : Msg). is_message_of t x.id) b)
-        by_test true = omega (arith, less)
-        by_test false = less
-
-    longer : (g : List Event) → posts_of_task g t ≤ posts_of_task (g ++ es) t
-    longer [] = omega arith
-    longer (Post m ∷ g) = one m (posts g) (posts (g ++ es)) (longer g)
-    longer (Fire x sp ms cs ∷ g) = longer g
-    longer (Admit x ∷ g) = longer g
-    longer (Put x d ∷ g) = longer g
-    longer (Start x a ∷ g) = longer g
-    longer (End x how ∷ g) = longer g
+posts_more h es t = rw (posts-append h es) (more_kept (λ (m : Msg). is_message_of t m.id) (posts h) (posts es))
 
 pub ends_whole : (s : ServiceParts) (h : List Event) → IsLegal (expansion s) h → has_shed h ≡ false → (t : TaskId) (how : EndHow) → HasEnded h t how → EndsWhole s h t how
 ends_whole s h legal unshed t how has =

@@ -1,6 +1,8 @@
 -- Each request is posted in a complete history.
 use Rattle.std.proofs.Common.{◌≡◌, inl, inr, ℕ, zero, suc, ◌+◌, true, List, [], ◌∷◌, map, Some, refl, sym, ap, ◌∙◌, arith, subst}
 use Rattle.std.specs.List.{slice_get}
+use Rattle.std.proofs.lemmas.Option.{slice_get-map}
+use Rattle.std.specs.Option.{option_map}
 use Rattle.ccr_base.specs.declared.names.MsgId.TheVariants.{Script}
 use Rattle.ccr_base.specs.declared.messages.Msg.{Msg}
 use Rattle.ccr_base.specs.declared.messages.Sent.{Sent}
@@ -28,11 +30,6 @@ poster_here : (n k : ℕ) (cs : List ClientPart) (c : ClientPart) → slice_get 
 poster_here n k [] c at = absurd (cc)
 poster_here n zero (x ∷ cs) c at = let e : n ≡ n + 0 = omega arith in let same : x ≡ c = cc in ap Some (ap (λ i. poster_of i x) e ∙ ap (poster_of (n + 0)) same)
 poster_here n (suc k) (x ∷ cs) c at = let e : (n + 1) + k ≡ n + suc k = omega arith in poster_here (n + 1) k cs c at ∙ ap (λ i. Some (poster_of i c)) e
-
-mapped_at : {X Y : Type 0} (f : X → Y) (xs : List X) (k : ℕ) (x : X) → slice_get xs k ≡ Some x → slice_get (map f xs) k ≡ Some (f x)
-mapped_at f [] k x at = absurd (cc)
-mapped_at f (y ∷ xs) zero x at = let same : y ≡ x = cc in ap (λ z. Some (f z)) same
-mapped_at f (y ∷ xs) (suc k) x at = mapped_at f xs k x at
 
 of_mapped : {X Y : Type 0} (f : X → Y) (xs : List X) (k : ℕ) (y : Y) → slice_get (map f xs) k ≡ Some y → (x : X) × (slice_get xs k ≡ Some x) × (f x ≡ y)
 of_mapped f [] k y at = absurd (cc)
@@ -66,7 +63,7 @@ ask_posted s h legal complete client index part ask is_client is_ask =
     let e : 0 + client ≡ client = omega arith in
     let poster : slice_get (expansion s).posters client ≡ Some (poster_of client part) = poster_here 0 client s.clients part is_client ∙ ap (λ i. Some (poster_of i part)) e in
     let all = whole (expansion s) h legal complete client (poster_of client part) poster in
-    let line : slice_get (map sent_of (posts_by h client)) index ≡ Some (request client ask) = ap (λ (xs : List Sent). slice_get xs index) all ∙ mapped_at (request client) part.asks index ask is_ask in
+    let line : slice_get (map sent_of (posts_by h client)) index ≡ Some (request client ask) = ap (λ (xs : List Sent). slice_get xs index) all ∙ slice_get-map (request client) part.asks index ∙ ap (option_map (request client)) is_ask in
     let found = of_mapped sent_of (posts_by h client) index (request client ask) line in
     let name = (follow (expansion s) h legal client (poster_of client part) poster).names index found.0 found.1 in
     let among = (Among-filter (λ (m : Msg). is_script_of client m.id) (posts h) found.0 (Among-at (posts_by h client) index found.0 found.1)).0 in

@@ -1,9 +1,8 @@
 -- At the end of an expansion's history every task is settled, and what is held is held after a teardown.
-use Rattle.std.proofs.Common.{◌≡◌, inl, inr, ℕ, ◌<◌, Bool, true, false, not, ◌&&◌, List, [], ◌∷◌, ◌++◌, length, Some, refl, sym, ap, ◌∙◌, arith, subst}
-use Rattle.std.specs.Prelude.{◌==◌, nat_le, if◌then◌else◌}
+use Rattle.std.proofs.Common.{◌≡◌, ℕ, ◌<◌, Bool, true, false, not, ◌&&◌, List, [], ◌∷◌, ◌++◌, length, Some, refl, sym, ap, ◌∙◌, arith, subst}
+use Rattle.std.specs.Prelude.{◌==◌, nat_le}
 use Rattle.std.specs.List.{slice_get}
 use Rattle.std.specs.Option.{option_map_or, is_some}
-use Rattle.std.proofs.lemmas.Grind.{common_steps}
 use Rattle.std.proofs.lemmas.Bool.Decides.{nat_tests}
 use Rattle.ccr_base.specs.declared.names.TaskId.{TaskId}
 use Rattle.ccr_base.specs.declared.names.Spot.TheVariants.{Branch}
@@ -14,7 +13,7 @@ use Rattle.ccr_base.specs.declared.policies.Group.{Group}
 use Rattle.ccr_base.specs.declared.policies.Group.TheVariants as groups
 use Rattle.ccr_base.specs.declared.patterns.Pred.{Pred}
 use Rattle.ccr_base.specs.Selection.{holds, fitting}
-use Rattle.ccr_base.specs.Names.{same_task, has_task}
+use Rattle.ccr_base.specs.Names.{has_task}
 use Rattle.ccr_wiring.specs.declared.parts.Parts.{Parts}
 use Rattle.ccr_wiring.specs.declared.parts.Kind.TheVariants as kinds
 use Rattle.ccr_wiring.specs.Wirings.{Placement, placement, placements, branch_of, spots, policy_of}
@@ -22,30 +21,27 @@ use Rattle.ccr_wiring.specs.Groups.{may_have}
 use Rattle.ccr_wiring.specs.Limits.{policy_is_outside}
 use Rattle.ccr_wiring.specs.Valid.{HasGroups}
 use Rattle.ccr_model.specs.declared.history.Event.{Event}
-use Rattle.ccr_model.specs.declared.history.Event.TheVariants.{End}
 use Rattle.ccr_model.specs.declared.history.TaskState.{TaskState}
-use Rattle.ccr_model.specs.declared.history.EndHow.{EndHow}
 use Rattle.ccr_model.specs.declared.history.TaskState.TheVariants as states
 use Rattle.ccr_model.specs.Posts.{held}
-use Rattle.ccr_model.specs.Firings.{cut, dropped, started, ended}
+use Rattle.ccr_model.specs.Firings.{cut, dropped, started}
 use Rattle.ccr_model.specs.Tasks.{fired_by, coming, waiting, running, is_teardown}
 use Rattle.ccr_model.specs.Live.{is_live, is_live_in, has_room, has_room_in, is_none_of}
 use Rattle.ccr_model.specs.Enough.{can_take, can_fire, has_enough}
 use Rattle.ccr_model.specs.Fates.{state_of}
 use Rattle.ccr_model.specs.Legal.{IsLegal}
 use Rattle.ccr_model.proofs.Allowing.{OneName-legal}
-use Rattle.ccr_base.proofs.Booleans.{no_both, or_left}
+use Rattle.ccr_base.proofs.Booleans.{no_both}
 use Rattle.ccr_model.proofs.QuietAllowsNone.{fire_none, branch_among}
 use Rattle.ccr_base.proofs.Options.{none_or}
-use Rattle.ccr_model.proofs.Members.{Among}
+use Rattle.ccr_model.proofs.Members.{Among, some_kept}
 use Rattle.ccr_model.proofs.CanFire.{some_fire_at}
 use Rattle.ccr_model.proofs.TasksLeft.{of_without, out_left}
-use Rattle.ccr_base.proofs.SameNames.{same_task-self}
-use Rattle.ccr_laws.specs.OneFate.{IsIn, HasEnded}
-use Rattle.ccr_model.proofs.TaskLists.{out_right, among_right, no_members}
+use Rattle.ccr_laws.specs.OneFate.{IsIn}
+use Rattle.ccr_model.proofs.TaskLists.{out_right, no_members}
 use Rattle.ccr_model.proofs.AllowedFirings.{fired_by_named, BranchFacts-where}
 use Rattle.ccr_model.proofs.Ending.{AreEnded-legal}
-use Rattle.ccr_laws.proofs.States.{is_in}
+use Rattle.ccr_laws.proofs.States.{is_in, has_ended}
 use Rattle.ccr_service.specs.declared.parts.OpPart.{OpPart}
 use Rattle.ccr_service.specs.declared.parts.ServiceParts.{ServiceParts}
 use Rattle.ccr_service.specs.Expansion.{request_port, expansion}
@@ -54,14 +50,6 @@ use Rattle.ccr_service.specs.Services.{IsService}
 use Rattle.ccr_service.specs.Stillness.{IsStill}
 use Rattle.ccr_service.proofs.QuietIsStill.{AtEnd}
 use Rattle.ccr_service.proofs.Shape.{PlacementFacts-placement, TakesIt, TakesIt-op}
-
-ended-append : (h es : List Event) → ended (h ++ es) ≡ ended h ++ ended es
-ended-append h es = grind (arith, common_steps)
-
-pub has_ended : (h : List Event) (t : TaskId) (how : EndHow) → HasEnded h t how → has_task (ended h) t ≡ true
-has_ended h t how has =
-    let here : has_task (ended (End t how ∷ has.stands.more)) t ≡ true = or_left (same_task t t) _ (same_task-self t) in
-    subst (λ g. has_task (ended g) t ≡ true) (sym has.stands.whole) (subst (λ ts. has_task ts t ≡ true) (sym (ended-append has.past (End t how ∷ has.stands.more))) (among_right (ended has.past) (ended (End t how ∷ has.stands.more)) t here))
 
 -- once still, whoever fired was cut, dropped or started
 went_on : (w : Parts) (h : List Event) → IsLegal w h → IsStill w h → (t : TaskId) → has_task (cut h) t ≡ false → has_task (dropped h) t ≡ false → has_task (started h) t ≡ false → (state : TaskState) → IsIn w h t state → ⊥
@@ -108,13 +96,7 @@ room_by w h (Discard n) some none = refl
 room_by w h (Throttle n) some none = let least = some n refl in rw none (grind (arith, nat_tests, least))
 
 some_fits : (pred : Pred) (ms : List Msg) (m : Msg) → Among m ms → holds pred m.value ≡ true → nat_le 1 (length (fitting pred ms)) ≡ true
-some_fits pred [] m among is = absurd among
-some_fits pred (x ∷ ms) m (inl e) is = let here : holds pred x.value ≡ true = ap (λ (y : Msg). holds pred y.value) (sym e) ∙ is in rw here (grind (arith, nat_tests))
-some_fits pred (x ∷ ms) m (inr more) is = by_test (holds pred x.value) (some_fits pred ms m more is)
-  where
-    by_test : (b : Bool) → nat_le 1 (length (fitting pred ms)) ≡ true → nat_le 1 (length (if b then x ∷ fitting pred ms else fitting pred ms)) ≡ true
-    by_test true rest = grind (arith, nat_tests)
-    by_test false rest = rest
+some_fits pred ms m among is = let some = some_kept (λ (x : Msg). holds pred x.value) ms m among is in grind (arith, nat_tests, some)
 
 abbrev no_teardown : ServiceParts → List Event → Bool
 no_teardown s h = is_none_of (fired_by (expansion s) (λ (r : Placement). (r.domain == 0) && is_teardown r.branch.group) h)

@@ -1,6 +1,6 @@
 -- What a text says is a service: the reading keeps the limits.
-use Rattle.std.proofs.Common.{◌≡◌, ◌⊎◌, inl, inr, ℕ, ◌+◌, ◌<◌, ◌≤◌, Bool, true, false, not, ◌&&◌, List, [], ◌∷◌, ◌++◌, length, Option, Some, None, Result, Ok, Err, refl, sym, ap, ◌∙◌, arith, subst, append-nil, option_to_list}
-use Rattle.std.specs.Prelude.{◌==◌, codes, if◌then◌else◌, nat_lt, nat_le, is_some, max}
+use Rattle.std.proofs.Common.{◌≡◌, ◌⊎◌, inl, inr, ℕ, ◌+◌, ◌<◌, ◌≤◌, Bool, true, false, not, List, [], ◌∷◌, ◌++◌, length, Option, Some, None, Result, Ok, Err, refl, sym, ap, ◌∙◌, arith, subst, append-nil, option_to_list}
+use Rattle.std.specs.Prelude.{◌==◌, codes, if◌then◌else◌, nat_lt, is_some, max}
 use Rattle.std.specs.List.{list_all}
 use Rattle.std.specs.Option.{option_and_then}
 use Rattle.std.specs.Str.{bytes_eq}
@@ -17,12 +17,14 @@ use Rattle.ccr_text.specs.declared.lines.Line.{Line}
 use Rattle.ccr_text.specs.Names.{meaning_of}
 use Rattle.ccr_text.specs.Fields.{Words, ◌>>=◌, unless, or_code, limited, word, no_more, number, number_within, policy}
 use Rattle.ccr_text.specs.Words.{number_of, is_comment}
-use Rattle.ccr_text.proofs.Steps.{unless_ok, or_code_ok, limit_ok}
+use Rattle.ccr_text.proofs.Steps.{unless_ok, or_code_ok, word_ok, limit_ok}
+use Rattle.ccr_text.proofs.Meanings.{meaning_none}
 use Rattle.ccr_wiring.specs.declared.parts.Kind.TheVariants as kinds
 use Rattle.ccr_wiring.specs.Groups.{may_have}
 use Rattle.ccr_wiring.specs.Limits.{policy_is_outside, is_outside}
 use Rattle.ccr_wiretext.specs.Reading.{at_line}
-use Rattle.ccr_wiretext.proofs.ReadTellsSteps.{bind_ok as then_ok}
+use Rattle.ccr_wiretext.proofs.ReadTellsSteps.{bind_ok as then_ok, ok_is}
+use Rattle.ccr_wiretext.proofs.FieldsRead.{within_said}
 use Rattle.ccr_base.proofs.Booleans.{both, no_both}
 use Rattle.ccr_base.proofs.Lists.{all_more}
 use Rattle.ccr_model.proofs.Members.{Among, Among-either, all_from, Among-last}
@@ -36,6 +38,7 @@ use Rattle.ccr_service.specs.Naming.{Naming, as_op}
 use Rattle.ccr_service.specs.Fields.{new_name, op_name, group, expr, bound}
 use Rattle.ccr_service.specs.Drafts.{Drafted, nothing, with_policy, with_op, with_client, with_ask, end_client, policy_form, op_form, client_form, ask_form, outside_line, client_line, apart, line_in}
 use Rattle.ccr_service.specs.Reading.{So, is_version, after_words, after_all, after_line, closed, at_end, reading_after, reading_text}
+use Rattle.ccr_service.specs.Grammar.{IsNew}
 use Rattle.ccr_service.specs.Served.{asks_in_all}
 use Rattle.ccr_service.specs.Services.{IsService, is_service_name, op_names, client_names, service_names, is_service_expr, is_service_op, are_asked}
 use Rattle.ccr_service.proofs.Pigeons.{Apart}
@@ -43,38 +46,38 @@ use Rattle.ccr_service.proofs.Naming.{apart_append, not_repeated}
 
 -- ---- steps
 
-abbrev pub okay : {A : Type 0} → A → Result A ℕ
-okay a = Ok a
-
-pub same_ok : {A : Type 0} {a b : A} → okay a ≡ okay b → a ≡ b
-same_ok e = cc
-
 -- ---- fields
 
-record IsNewName (names : Naming) (name : List ℕ) : Type 0 where
-  formed : is_service_name name ≡ true
-  new : meaning_of names name ≡ None
+-- a name that is declared is new, and one that is asked is an operation's
+pub record NewSaid (names : Naming) (words : Words) (p : List ℕ × Words) : Type 0 where
+  pub spelled : words ≡ p.0 ∷ p.1
+  pub new : IsNew names p.0
 
-new_name_ok : (names : Naming) (words : Words) (p : List ℕ × Words) → new_name names words ≡ Ok p → IsNewName names p.0
+pub new_said : (names : Naming) (words : Words) (p : List ℕ × Words) → new_name names words ≡ Ok p → NewSaid names words p
 unfolding new_name
-new_name_ok names words p e =
+new_said names words p e =
     let a = then_ok (word words) _ p e in
     let b = then_ok (unless (is_service_name a.0.0) 14) _ p a.2 in
     let c = then_ok (unless (not (is_some (meaning_of names a.0.0))) 6) _ p b.2 in
-    let same : a.0 ≡ p = same_ok c.2 in
-    subst (λ (q : List ℕ × Words). IsNewName names q.0) same (record { formed = unless_ok (is_service_name a.0.0) 14 b.0 b.1; new = none (meaning_of names a.0.0) (unless_ok _ 6 c.0 c.1) })
+    let same : a.0 ≡ p = ok_is _ _ c.2 in
+    subst (NewSaid names words) same (record { spelled = word_ok words a.0 a.1; new = record { formed = unless_ok (is_service_name a.0.0) 14 b.0 b.1; new = none (meaning_of names a.0.0) (unless_ok _ 6 c.0 c.1) } })
   where
     none : (o : Option OpOrClient) → not (is_some o) ≡ true → o ≡ None
     none None is = refl
     none (Some n) is = absurd (cc)
 
-op_name_ok : (names : Naming) (words : Words) (p : ℕ × Words) → op_name names words ≡ Ok p → (name : List ℕ) × (meaning_of names name ≡ Some (named.Op p.0))
+pub record OpSaid (names : Naming) (words : Words) (p : ℕ × Words) : Type 0 where
+  pub name : List ℕ
+  pub spelled : words ≡ name ∷ p.1
+  pub refers : meaning_of names name ≡ Some (named.Op p.0)
+
+pub op_said : (names : Naming) (words : Words) (p : ℕ × Words) → op_name names words ≡ Ok p → OpSaid names words p
 unfolding op_name
-op_name_ok names words p e =
+op_said names words p e =
     let a = then_ok (word words) _ p e in
     let b = then_ok (or_code (option_and_then as_op (meaning_of names a.0.0)) 7) _ p a.2 in
-    let same : b.0 ≡ p.0 = ap (λ (q : ℕ × Words). q.0) (same_ok b.2) in
-    (a.0.0, of_op (meaning_of names a.0.0) p.0 (or_code_ok _ 7 b.0 b.1 ∙ ap Some same))
+    let same : (b.0, a.0.1) ≡ p = ok_is _ _ b.2 in
+    subst (OpSaid names words) same (record { name = a.0.0; spelled = word_ok words a.0 a.1; refers = of_op (meaning_of names a.0.0) b.0 (or_code_ok _ 7 b.0 b.1) })
   where
     of_op : (o : Option OpOrClient) (k : ℕ) → option_and_then as_op o ≡ Some k → o ≡ Some (named.Op k)
     of_op None k is = absurd (cc)
@@ -82,15 +85,7 @@ op_name_ok names words p e =
     of_op (Some (named.Op n)) k is = let same : n ≡ k = cc in ap (λ i. Some (named.Op i)) same
 
 within_ok : (low high : ℕ) (words : Words) (p : ℕ × Words) → number_within low high words ≡ Ok p → (low ≤ p.0) × (p.0 ≤ high)
-unfolding number_within
-within_ok low high words p e =
-    let a = then_ok (number words) _ p e in
-    let b = then_ok (unless (nat_le low a.0.0 && nat_le a.0.0 high) 10) _ p a.2 in
-    let is = both (nat_le low a.0.0) (nat_le a.0.0 high) (unless_ok _ 10 b.0 b.1) in
-    let same : a.0.0 ≡ p.0 = ap (λ (q : ℕ × Words). q.0) (same_ok b.2) in
-    let least = is.0 in
-    let most = is.1 in
-    (grind (arith, nat_tests, least, same), grind (arith, nat_tests, most, same))
+within_ok low high words p e = let said = within_said low high words p e in (said.2.above, said.2.below)
 
 inside : (low high n : ℕ) → low ≤ n → n ≤ high → is_outside low high n ≡ false
 inside low high n a b = grind (arith, nat_tests, a, b)
@@ -102,9 +97,9 @@ policy_ok words p e =
     by_first (bytes_eq a.0.0 (codes "unbounded")) (bytes_eq a.0.0 (codes "discard")) (bytes_eq a.0.0 (codes "throttle")) a.0.1 a.2
   where
     by_first : (x y z : Bool) (rest : Words) → (if x then Ok (policies.Unbounded, rest) else if y then (number_within 1 1000 rest >>= λ limit. Ok (policies.Discard limit.0, limit.1)) else if z then (number_within 1 1000 rest >>= λ limit. Ok (policies.Throttle limit.0, limit.1)) else Err 3) ≡ Ok p → policy_is_outside p.0 ≡ false
-    by_first true y z rest is = ap (λ (q : Policy × Words). policy_is_outside q.0) (sym (same_ok is))
-    by_first false true z rest is = let n = then_ok (number_within 1 1000 rest) _ p is in let w = within_ok 1 1000 rest n.0 n.1 in ap (λ (q : Policy × Words). policy_is_outside q.0) (sym (same_ok n.2)) ∙ inside 1 1000 n.0.0 w.0 w.1
-    by_first false false true rest is = let n = then_ok (number_within 1 1000 rest) _ p is in let w = within_ok 1 1000 rest n.0 n.1 in ap (λ (q : Policy × Words). policy_is_outside q.0) (sym (same_ok n.2)) ∙ inside 1 1000 n.0.0 w.0 w.1
+    by_first true y z rest is = ap (λ (q : Policy × Words). policy_is_outside q.0) (sym (ok_is _ _ is))
+    by_first false true z rest is = let n = then_ok (number_within 1 1000 rest) _ p is in let w = within_ok 1 1000 rest n.0 n.1 in ap (λ (q : Policy × Words). policy_is_outside q.0) (sym (ok_is _ _ n.2)) ∙ inside 1 1000 n.0.0 w.0 w.1
+    by_first false false true rest is = let n = then_ok (number_within 1 1000 rest) _ p is in let w = within_ok 1 1000 rest n.0 n.1 in ap (λ (q : Policy × Words). policy_is_outside q.0) (sym (ok_is _ _ n.2)) ∙ inside 1 1000 n.0.0 w.0 w.1
     by_first false false false rest is = absurd (cc)
 
 abbrev pub group_by : Bool → Bool → Bool → Words → Result (Group × Words) ℕ
@@ -117,9 +112,9 @@ group_ok words p e =
     by_first (bytes_eq a.0.0 (codes "teardown")) (bytes_eq a.0.0 (codes "exclusive")) (bytes_eq a.0.0 (codes "concurrent")) a.0.1 a.2
   where
     by_first : (x y z : Bool) (rest : Words) → group_by x y z rest ≡ Ok p → may_have kinds.Interleave p.0 ≡ true
-    by_first true y z rest is = ap (λ (q : Group × Words). may_have kinds.Interleave q.0) (sym (same_ok is))
-    by_first false true z rest is = ap (λ (q : Group × Words). may_have kinds.Interleave q.0) (sym (same_ok is))
-    by_first false false true rest is = ap (λ (q : Group × Words). may_have kinds.Interleave q.0) (sym (same_ok is))
+    by_first true y z rest is = ap (λ (q : Group × Words). may_have kinds.Interleave q.0) (sym (ok_is _ _ is))
+    by_first false true z rest is = ap (λ (q : Group × Words). may_have kinds.Interleave q.0) (sym (ok_is _ _ is))
+    by_first false false true rest is = ap (λ (q : Group × Words). may_have kinds.Interleave q.0) (sym (ok_is _ _ is))
     by_first false false false rest is = absurd (cc)
 
 expr_ok : (words : Words) (p : Expr × Words) → expr words ≡ Ok p → is_service_expr p.0 ≡ true
@@ -129,24 +124,12 @@ expr_ok words p e =
     by_first (bytes_eq a.0.0 (codes "sum")) (bytes_eq a.0.0 (codes "count")) (bytes_eq a.0.0 (codes "arg")) a.0.0 a.0.1 a.2
   where
     by_first : (x y z : Bool) (name : List ℕ) (rest : Words) → (if x then Ok (exprs.Sum, rest) else if y then Ok (exprs.Count, rest) else if z then (number_within 0 65535 rest >>= λ place. Ok (exprs.Arg place.0, place.1)) else (or_code (number_of name) 5 >>= λ n. Ok (exprs.Number (n ∷ []), rest))) ≡ Ok p → is_service_expr p.0 ≡ true
-    by_first true y z name rest is = ap (λ (q : Expr × Words). is_service_expr q.0) (sym (same_ok is))
-    by_first false true z name rest is = ap (λ (q : Expr × Words). is_service_expr q.0) (sym (same_ok is))
-    by_first false false true name rest is = let n = then_ok (number_within 0 65535 rest) _ p is in let w = within_ok 0 65535 rest n.0 n.1 in ap (λ (q : Expr × Words). is_service_expr q.0) (sym (same_ok n.2)) ∙ ap not (inside 0 65535 n.0.0 w.0 w.1)
-    by_first false false false name rest is = let n = then_ok (or_code (number_of name) 5) _ p is in ap (λ (q : Expr × Words). is_service_expr q.0) (sym (same_ok n.2))
+    by_first true y z name rest is = ap (λ (q : Expr × Words). is_service_expr q.0) (sym (ok_is _ _ is))
+    by_first false true z name rest is = ap (λ (q : Expr × Words). is_service_expr q.0) (sym (ok_is _ _ is))
+    by_first false false true name rest is = let n = then_ok (number_within 0 65535 rest) _ p is in let w = within_ok 0 65535 rest n.0 n.1 in ap (λ (q : Expr × Words). is_service_expr q.0) (sym (ok_is _ _ n.2)) ∙ ap not (inside 0 65535 n.0.0 w.0 w.1)
+    by_first false false false name rest is = let n = then_ok (or_code (number_of name) 5) _ p is in ap (λ (q : Expr × Words). is_service_expr q.0) (sym (ok_is _ _ n.2))
 
 -- ---- names
-
-meaning_none : (names : Naming) (key n : List ℕ) (v : OpOrClient) → meaning_of (names ++ (key, v) ∷ []) n ≡ None → (meaning_of names n ≡ None) × (n ≡ key → ⊥)
-meaning_none [] key n v none = (refl, λ same. by_test (bytes_eq n key) refl none same)
-  where
-    by_test : (b : Bool) → bytes_eq n key ≡ b → (if b then Some v else None) ≡ None → n ≡ key → ⊥
-    by_test true e gone same = absurd (cc)
-    by_test false e gone same = no_both ((bytes_decides n key).1 same) e
-meaning_none (entry ∷ names) key n v none = by_test (bytes_eq n entry.0) none (meaning_none names key n v)
-  where
-    by_test : (b : Bool) → (if b then Some entry.1 else meaning_of (names ++ (key, v) ∷ []) n) ≡ None → (meaning_of (names ++ (key, v) ∷ []) n ≡ None → (meaning_of names n ≡ None) × (n ≡ key → ⊥)) → ((if b then Some entry.1 else meaning_of names n) ≡ None) × (n ≡ key → ⊥)
-    by_test true gone rest = absurd (cc)
-    by_test false gone rest = rest gone
 
 meaning_some : (names : Naming) (key n : List ℕ) (v m : OpOrClient) → meaning_of (names ++ (key, v) ∷ []) n ≡ Some m → (meaning_of names n ≡ Some m) ⊎ (m ≡ v)
 meaning_some [] key n v m is = by_test (bytes_eq n key) is
@@ -202,7 +185,7 @@ all_asked_more : (n : ℕ) (cs : List ClientPart) → list_all (λ (c : ClientPa
 all_asked_more n [] is = refl
 all_asked_more n (c ∷ cs) is = let parts = both (are_asked n c.asks) (list_all (λ (x : ClientPart). are_asked n x.asks) cs) is in rw (asked_more n c.asks parts.0, all_asked_more n cs parts.1) refl
 
-kept_op : (rule : Policy) (ops : List OpPart) (cs : List ClientPart) (names : Naming) (asks : ℕ) (part : OpPart) → IsKept rule ops cs names asks → length ops < 32 → IsNewName names part.name → is_service_op part ≡ true → IsKept rule (ops ++ part ∷ []) cs (names ++ (part.name, named.Op (length ops)) ∷ []) asks
+kept_op : (rule : Policy) (ops : List OpPart) (cs : List ClientPart) (names : Naming) (asks : ℕ) (part : OpPart) → IsKept rule ops cs names asks → length ops < 32 → IsNew names part.name → is_service_op part ≡ true → IsKept rule (ops ++ part ∷ []) cs (names ++ (part.name, named.Op (length ops)) ∷ []) asks
 kept_op rule ops cs names asks part kept room name is_op =
     let long : length (ops ++ part ∷ []) ≡ length ops + 1 = length-append ops (part ∷ []) in
     let all : op_names (ops ++ part ∷ []) ≡ op_names ops ++ part.name ∷ [] = mapped_append (λ (op : OpPart). op.name) ops (part ∷ []) in
@@ -220,7 +203,7 @@ kept_op rule ops cs names asks part kept room name is_op =
       inside_so = kept.inside_so;
       ops_so = all_more is_service_op ops part kept.ops_so is_op;
       asked = subst (λ k. list_all (λ (c : ClientPart). are_asked k c.asks) cs ≡ true) (sym long) (all_asked_more (length ops) cs kept.asked);
-      fresh = λ n none. let parts = meaning_none names part.name n (named.Op (length ops)) none in let old = kept.fresh n parts.0 in ((λ is. of_new n (Among-last n part.name (op_names ops) (subst (Among n) all is)) old.0 parts.1), old.1);
+      fresh = λ n none. let parts = meaning_none names part.name n (named.Op (length ops)) none in let apart : n ≡ part.name → ⊥ = λ same. no_both ((bytes_decides n part.name).1 same) parts.1 in let old = kept.fresh n parts.0 in ((λ is. of_new n (Among-last n part.name (op_names ops) (subst (Among n) all is)) old.0 apart), old.1);
       numbered = λ n k is. of_number k n (meaning_some names part.name n (named.Op (length ops)) (named.Op k) is) (kept.numbered n k) long;
     }
   where
@@ -236,7 +219,7 @@ kept_op rule ops cs names asks part kept room name is_op =
     of_number k n (inl old) before long = let lt = before old in omega (arith, lt, long)
     of_number k n (inr e) before long = let same : k ≡ length ops = cc in omega (arith, same, long)
 
-kept_client : (rule : Policy) (ops : List OpPart) (cs : List ClientPart) (names : Naming) (asks : ℕ) (name : List ℕ) → IsKept rule ops cs names asks → length cs < 16 → IsNewName names name → IsKept rule ops (cs ++ record { name = name; asks = [] } ∷ []) (names ++ (name, named.Client) ∷ []) asks
+kept_client : (rule : Policy) (ops : List OpPart) (cs : List ClientPart) (names : Naming) (asks : ℕ) (name : List ℕ) → IsKept rule ops cs names asks → length cs < 16 → IsNew names name → IsKept rule ops (cs ++ record { name = name; asks = [] } ∷ []) (names ++ (name, named.Client) ∷ []) asks
 kept_client rule ops cs names asks name kept room is_new =
     let part : ClientPart = record { name = name; asks = [] } in
     let long : length (cs ++ part ∷ []) ≡ length cs + 1 = length-append cs (part ∷ []) in
@@ -257,7 +240,7 @@ kept_client rule ops cs names asks name kept room is_new =
       inside_so = kept.inside_so;
       ops_so = kept.ops_so;
       asked = all_more (λ (c : ClientPart). are_asked (length ops) c.asks) cs part kept.asked refl;
-      fresh = λ n none. let parts = meaning_none names name n named.Client none in let old = kept.fresh n parts.0 in (old.0, (λ is. of_new n (Among-last n name (client_names cs) (subst (Among n) all is)) old.1 parts.1));
+      fresh = λ n none. let parts = meaning_none names name n named.Client none in let apart : n ≡ name → ⊥ = λ same. no_both ((bytes_decides n name).1 same) parts.1 in let old = kept.fresh n parts.0 in (old.0, (λ is. of_new n (Among-last n name (client_names cs) (subst (Among n) all is)) old.1 apart));
       numbered = λ n k is. of_number k n (meaning_some names name n named.Client (named.Op k) is) (kept.numbered n k);
     }
   where
@@ -346,7 +329,7 @@ kept_service parts names asks kept some =
 abbrev Keeps : Drafted → Type 0
 Keeps d = IsKept d.parts.policy d.parts.ops (d.parts.clients ++ option_to_list d.block) d.names d.asks
 
-op_form_ok : (d : Drafted) (words : Words) (part : OpPart) → op_form d words ≡ Ok part → (length d.parts.ops < 32) × IsNewName d.names part.name × (is_service_op part ≡ true)
+op_form_ok : (d : Drafted) (words : Words) (part : OpPart) → op_form d words ≡ Ok part → (length d.parts.ops < 32) × IsNew d.names part.name × (is_service_op part ≡ true)
 unfolding op_form
 op_form_ok d words part e =
     let a = then_ok (limited 32 (length d.parts.ops)) _ part e in
@@ -355,18 +338,18 @@ op_form_ok d words part e =
     let f = then_ok (expr c.0.1) _ part c.2 in
     let g = then_ok (bound f.0.1) _ part f.2 in
     let h = then_ok (no_more g.0.1) _ part g.2 in
-    let same : record { name = b.0.0; group = c.0.0; expr = f.0.0; below = g.0.0 } ≡ part = same_ok h.2 in
+    let same : record { name = b.0.0; group = c.0.0; expr = f.0.0; below = g.0.0 } ≡ part = ok_is _ _ h.2 in
     let fits : is_service_op (record { name = b.0.0; group = c.0.0; expr = f.0.0; below = g.0.0 }) ≡ true = rw (group_ok b.0.1 c.0 c.1, expr_ok c.0.1 f.0 f.1) refl in
-    (limit_ok 32 (length d.parts.ops) a.0 a.1, subst (λ (p : OpPart). IsNewName d.names p.name) same (new_name_ok d.names words b.0 b.1), subst (λ (p : OpPart). is_service_op p ≡ true) same fits)
+    (limit_ok 32 (length d.parts.ops) a.0 a.1, subst (λ (p : OpPart). IsNew d.names p.name) same (new_said d.names words b.0 b.1).new, subst (λ (p : OpPart). is_service_op p ≡ true) same fits)
 
-client_form_ok : (d : Drafted) (words : Words) (name : List ℕ) → client_form d words ≡ Ok name → (length d.parts.clients < 16) × IsNewName d.names name
+client_form_ok : (d : Drafted) (words : Words) (name : List ℕ) → client_form d words ≡ Ok name → (length d.parts.clients < 16) × IsNew d.names name
 unfolding client_form
 client_form_ok d words name e =
     let a = then_ok (limited 16 (length d.parts.clients)) _ name e in
     let b = then_ok (new_name d.names words) _ name a.2 in
     let c = then_ok (no_more b.0.1) _ name b.2 in
-    let same : b.0.0 ≡ name = same_ok c.2 in
-    (limit_ok 16 (length d.parts.clients) a.0 a.1, subst (IsNewName d.names) same (new_name_ok d.names words b.0 b.1))
+    let same : b.0.0 ≡ name = ok_is _ _ c.2 in
+    (limit_ok 16 (length d.parts.clients) a.0 a.1, subst (IsNew d.names) same (new_said d.names words b.0 b.1).new)
 
 ask_form_ok : (d : Drafted) (words : Words) (ask : AskPart) → ask_form d words ≡ Ok ask → (d.asks < 10000) × ((name : List ℕ) × (meaning_of d.names name ≡ Some (named.Op ask.op)))
 unfolding ask_form
@@ -375,9 +358,9 @@ ask_form_ok d words ask e =
     let b = then_ok (op_name d.names words) _ ask a.2 in
     let c = then_ok (number b.0.1) _ ask b.2 in
     let f = then_ok (no_more c.0.1) _ ask c.2 in
-    let same : b.0.0 ≡ ask.op = ap (λ (x : AskPart). x.op) (same_ok f.2) in
-    let found = op_name_ok d.names words b.0 b.1 in
-    (limit_ok 10000 d.asks a.0 a.1, (found.0, found.1 ∙ ap (λ i. Some (named.Op i)) same))
+    let same : b.0.0 ≡ ask.op = ap (λ (x : AskPart). x.op) (ok_is _ _ f.2) in
+    let found = op_said d.names words b.0 b.1 in
+    (limit_ok 10000 d.asks a.0 a.1, (found.name, found.refers ∙ ap (λ i. Some (named.Op i)) same))
 
 policy_form_ok : (d : Drafted) (words : Words) (rule : Policy) → policy_form d words ≡ Ok rule → policy_is_outside rule ≡ false
 unfolding policy_form
@@ -385,7 +368,7 @@ policy_form_ok d words rule e =
     let a = then_ok (unless (not d.policied) 13) _ rule e in
     let b = then_ok (policy 1000 words) _ rule a.2 in
     let c = then_ok (no_more b.0.1) _ rule b.2 in
-    let same : b.0.0 ≡ rule = same_ok c.2 in
+    let same : b.0.0 ≡ rule = ok_is _ _ c.2 in
     subst (λ r. policy_is_outside r ≡ false) same (policy_ok words b.0 b.1)
 
 outside_kept : (d e : Drafted) (first : List ℕ) (words : Words) → Keeps (apart d) → outside_line (apart d) first words ≡ Ok e → Keeps e
@@ -399,7 +382,7 @@ outside_kept d e first words kept is = by_first (bytes_eq first (codes "policy")
     by_first true y z at =
         let a = then_ok (policy_form (apart d) words) _ e at in
         let rule_ok = policy_form_ok (apart d) words a.0 a.1 in
-        subst Keeps (same_ok a.2) (record {
+        subst Keeps (ok_is _ _ a.2) (record {
           few_ops = kept.few_ops;
           few_clients = kept.few_clients;
           counted = kept.counted;
@@ -418,11 +401,11 @@ outside_kept d e first words kept is = by_first (bytes_eq first (codes "policy")
     by_first false true z at =
         let a = then_ok (op_form (apart d) words) _ e at in
         let ok = op_form_ok (apart d) words a.0 a.1 in
-        subst Keeps (same_ok a.2) (kept_op d.parts.policy d.parts.ops (d.parts.clients ++ []) d.names d.asks a.0 kept ok.0 ok.1 ok.2)
+        subst Keeps (ok_is _ _ a.2) (kept_op d.parts.policy d.parts.ops (d.parts.clients ++ []) d.names d.asks a.0 kept ok.0 ok.1 ok.2)
     by_first false false true at =
         let a = then_ok (client_form (apart d) words) _ e at in
         let ok = client_form_ok (apart d) words a.0 a.1 in
-        subst Keeps (same_ok a.2) (kept_client d.parts.policy d.parts.ops d.parts.clients d.names d.asks a.0 plain ok.0 ok.1)
+        subst Keeps (ok_is _ _ a.2) (kept_client d.parts.policy d.parts.ops d.parts.clients d.names d.asks a.0 plain ok.0 ok.1)
     by_first false false false at = absurd (cc)
 
 client_kept : (d e : Drafted) (part : ClientPart) (first : List ℕ) (words : Words) → IsKept d.parts.policy d.parts.ops (d.parts.clients ++ part ∷ []) d.names d.asks → client_line (apart d) part first words ≡ Ok e → Keeps e
@@ -433,10 +416,10 @@ client_kept d e part first words kept is = by_first (bytes_eq first (codes "ask"
     by_first true y at =
         let a = then_ok (ask_form (apart d) words) _ e at in
         let ok = ask_form_ok (apart d) words a.0 a.1 in
-        subst Keeps (same_ok a.2) (kept_ask d.parts.policy d.parts.ops d.parts.clients d.names d.asks part a.0 kept ok.0 (kept.numbered ok.1.0 a.0.op ok.1.1))
+        subst Keeps (ok_is _ _ a.2) (kept_ask d.parts.policy d.parts.ops d.parts.clients d.names d.asks part a.0 kept ok.0 (kept.numbered ok.1.0 a.0.op ok.1.1))
     by_first false true at =
         let a = then_ok (no_more words) _ e at in
-        subst Keeps (same_ok a.2) (subst (λ cs. IsKept d.parts.policy d.parts.ops cs d.names d.asks) (sym (append-nil (d.parts.clients ++ part ∷ []))) kept)
+        subst Keeps (ok_is _ _ a.2) (subst (λ cs. IsKept d.parts.policy d.parts.ops cs d.names d.asks) (sym (append-nil (d.parts.clients ++ part ∷ []))) kept)
     by_first false false at = absurd (cc)
 
 line_kept : (d e : Drafted) (o : Option ClientPart) (first : List ℕ) (words : Words) → IsKept d.parts.policy d.parts.ops (d.parts.clients ++ option_to_list o) d.names d.asks → line_in o d first words ≡ Ok e → Keeps e
@@ -453,16 +436,16 @@ nothing_kept = kept_none
 
 words_kept : (so new : So) (first : List ℕ) (words : Words) → KeepsSo so → after_words so first words ≡ Ok new → KeepsSo new
 unfolding after_words
-words_kept None new first words kept is = let a = then_ok (unless (is_version (first ∷ words)) 2) _ new is in subst KeepsSo (same_ok a.2) nothing_kept
-words_kept (Some d) new first words kept is = let a = then_ok (line_in d.block d first words) _ new is in subst KeepsSo (same_ok a.2) (line_kept d a.0 d.block first words kept a.1)
+words_kept None new first words kept is = let a = then_ok (unless (is_version (first ∷ words)) 2) _ new is in subst KeepsSo (ok_is _ _ a.2) nothing_kept
+words_kept (Some d) new first words kept is = let a = then_ok (line_in d.block d first words) _ new is in subst KeepsSo (ok_is _ _ a.2) (line_kept d a.0 d.block first words kept a.1)
 
 all_kept : (so new : So) (words : Words) → KeepsSo so → after_all so words ≡ Ok new → KeepsSo new
 unfolding after_all
-all_kept so new [] kept is = subst KeepsSo (same_ok is) kept
+all_kept so new [] kept is = subst KeepsSo (ok_is _ _ is) kept
 all_kept so new (first ∷ words) kept is = by_comment (is_comment first) is
   where
     by_comment : (b : Bool) → (if b then Ok so else after_words so first words) ≡ Ok new → KeepsSo new
-    by_comment true at = subst KeepsSo (same_ok at) kept
+    by_comment true at = subst KeepsSo (ok_is _ _ at) kept
     by_comment false at = words_kept so new first words kept at
 
 after_kept : (so new : So) (line : Line) → KeepsSo so → after_line so line ≡ Ok new → KeepsSo new
@@ -484,7 +467,7 @@ end_kept (Some d) parts kept is = by_block d.block kept is
         let a = then_ok (unless (not (length d.parts.ops == 0)) 11) _ parts at in
         let some = unless_ok (not (length d.parts.ops == 0)) 11 a.0 a.1 in
         let least : 0 < length d.parts.ops = grind (arith, nat_tests, some) in
-        subst IsService (same_ok a.2) (kept_service d.parts d.names d.asks (subst (λ cs. IsKept d.parts.policy d.parts.ops cs d.names d.asks) (append-nil d.parts.clients) so) least)
+        subst IsService (ok_is _ _ a.2) (kept_service d.parts d.names d.asks (subst (λ cs. IsKept d.parts.policy d.parts.ops cs d.names d.asks) (append-nil d.parts.clients) so) least)
 
 abbrev pub reading_on : Line → List Line → Result So ℕ → Result ServiceParts (ℕ × ℕ)
 reading_on line lines r = elim r [ Ok new ↦ reading_after new line.number lines | Err code ↦ Err (line.number, code) ]

@@ -22,18 +22,18 @@ use Rattle.ccr_model.specs.Tasks.{running, has_post_left}
 use Rattle.ccr_model.specs.Rules.{refusal_of_post, is_play_post, may_end}
 use Rattle.ccr_model.specs.Legal.{IsAllowed, IsLegal, has_shed, is_complete, are_whole_from}
 use Rattle.ccr_model.proofs.Allowing.{OneName-legal}
-use Rattle.ccr_base.proofs.Booleans.{both, either, no_both, or_left, refuted, same_number}
-use Rattle.ccr_model.proofs.Members.{Among, Among-left, Among-right, Among-either}
+use Rattle.ccr_base.proofs.Booleans.{both, no_both, or_left, refuted, same_number}
+use Rattle.ccr_model.proofs.Members.{Among, Among-left, Among-right, Among-either, some_kept}
 use Rattle.ccr_model.proofs.PostNames.{refused_not, times, posted_once}
 use Rattle.ccr_model.proofs.LegalParts.{along_legal}
 use Rattle.ccr_model.proofs.OneMoreEvent.{posts-push, ended-push}
-use Rattle.ccr_base.proofs.SameNames.{same_message-self, same_task-self, same_task-is}
+use Rattle.ccr_base.proofs.SameNames.{same_message-self, same_task-self, has_task-last}
 use Rattle.ccr_model.proofs.Stable.{firing_named-append}
 use Rattle.ccr_model.proofs.Ending.{RunningFacts-running}
 use Rattle.ccr_model.proofs.FiredTasks.{IsFired, fired_has}
 use Rattle.ccr_model.proofs.TakenOnce.{times_named, taken_once}
-use Rattle.ccr_model.proofs.TaskLists.{of_more, of_one, among_left}
-use Rattle.ccr_model.proofs.TasksLeft.{has_task-last}
+use Rattle.ccr_model.proofs.TaskLists.{of_more, of_one, among_left, task_among}
+use Rattle.ccr_model.proofs.MessageNames.{times_some, times_back}
 use Rattle.ccr_service.specs.declared.parts.AskPart.{AskPart}
 use Rattle.ccr_service.specs.declared.parts.ClientPart.{ClientPart}
 use Rattle.ccr_service.specs.declared.parts.ServiceParts.{ServiceParts}
@@ -164,22 +164,6 @@ posting_some (m ∷ ms) t is = by_name m.id refl is (posting_some ms t)
 abbrev AllFirst : List Msg → Type 0
 AllFirst ms = (m : Msg) → Among m ms → (t : TaskId) (k : ℕ) → m.id ≡ Task t k → k ≡ 0
 
-times_some : (ms : List Msg) (m : Msg) (name : MsgId) → Among m ms → m.id ≡ name → 1 ≤ times name ms
-times_some [] m name is e = absurd is
-times_some (x ∷ ms) m name (inl same) e = let here : same_message x.id name ≡ true = ap (λ (y : Msg). same_message y.id name) (sym same) ∙ ap (λ n. same_message n name) e ∙ same_message-self name in rw here (grind arith)
-times_some (x ∷ ms) m name (inr more) e = by_test (same_message x.id name) (times_some ms m name more e)
-  where
-    by_test : (b : Bool) → 1 ≤ times name ms → 1 ≤ length (if b then x ∷ filter (λ (y : Msg). same_message y.id name) ms else filter (λ (y : Msg). same_message y.id name) ms)
-    by_test true rest = grind arith
-    by_test false rest = rest
-
-times_back : (m : Msg) (ms : List Msg) (name : MsgId) → times name ms ≤ times name (m ∷ ms)
-times_back m ms name = by_test (same_message m.id name)
-  where
-    by_test : (b : Bool) → times name ms ≤ length (if b then m ∷ filter (λ (y : Msg). same_message y.id name) ms else filter (λ (y : Msg). same_message y.id name) ms)
-    by_test true = omega arith
-    by_test false = omega arith
-
 posting_apart : (ms : List Msg) → ((name : MsgId) → times name ms ≤ 1) → AllFirst ms → Apart (posting ms)
 posting_apart [] once first = tt
 posting_apart (m ∷ ms) once first = by_name m.id refl (posting_apart ms (λ name. let few = once name in let less = times_back m ms name in omega (arith, few, less)) (λ x is. first x (inr is)))
@@ -193,7 +177,7 @@ posting_apart (m ∷ ms) once first = by_name m.id refl (posting_apart ms (λ na
             let other = posting_some ms t is in
             let there = first other.0 (inr other.1) t other.2.0 other.2.1 in
             let here = first m (inl refl) t k e in
-            let some = times_some ms other.0 (Task t 0) other.1 (other.2.1 ∙ ap (Task t) there) in
+            let some = subst (λ n. 1 ≤ times n ms) (other.2.1 ∙ ap (Task t) there) (times_some ms other.0 other.1) in
             let one : same_message m.id (Task t 0) ≡ true = ap (λ n. same_message n (Task t 0)) (e ∙ ap (Task t) here) ∙ same_message-self (Task t 0) in
             let two : times (Task t 0) (m ∷ ms) ≡ suc (times (Task t 0) ms) = rw one refl in
             let few = once (Task t 0) in
@@ -296,10 +280,6 @@ names_apart (n ∷ ns) once = (twice, names_apart ns (λ name. let few = once na
         let least = some ns is in
         omega (arith, two, few, least)
 
-task_among : (ts : List TaskId) (t : TaskId) → has_task ts t ≡ true → Among t ts
-task_among [] t is = absurd (cc)
-task_among (u ∷ ts) t is = either (same_task t u) (has_task ts t) is (Among t (u ∷ ts)) (λ here. inl (sym (sym (same_task-is t u here)))) (λ later. inr (task_among ts t later))
-
 -- no more firings than requests
 few_fired : (s : ServiceParts) → HasPortsApart (expansion s) → (h : List Event) → IsLegal (expansion s) h → length (fired h) ≤ asks_in_all s.clients
 few_fired s apart h legal =
@@ -350,17 +330,8 @@ none_shed s apart small h legal complete = refuted (has_shed h) shed_so
             let its = posting_some (posts h) t among in
             let here : is_message_of t its.0.id ≡ true = ap (is_message_of t) its.2.1 ∙ same_task-self t in
             let none = facts.silent in
-            let some = at_least (posts h) its.0 its.1 here in
+            let some = some_kept (λ (x : Msg). is_message_of t x.id) (posts h) its.0 its.1 here in
             omega (arith, none, some)
-          where
-            at_least : (ms : List Msg) (m : Msg) → Among m ms → is_message_of t m.id ≡ true → 1 ≤ length (filter (λ (x : Msg). is_message_of t x.id) ms)
-            at_least [] m is e = absurd is
-            at_least (x ∷ ms) m (inl same) e = let here : is_message_of t x.id ≡ true = ap (λ (y : Msg). is_message_of t y.id) (sym same) ∙ e in rw here (grind arith)
-            at_least (x ∷ ms) m (inr more) e = by_test (is_message_of t x.id) (at_least ms m more e)
-              where
-                by_test : (b : Bool) → 1 ≤ length (filter (λ (y : Msg). is_message_of t y.id) ms) → 1 ≤ length (if b then x ∷ filter (λ (y : Msg). is_message_of t y.id) ms else filter (λ (y : Msg). is_message_of t y.id) ms)
-                by_test true rest = grind arith
-                by_test false rest = rest
 
         all_fired : (t : TaskId) → IsShed h t → (u : TaskId) → Among u (t ∷ posting (posts h)) → Among u (fired h)
         all_fired t facts u (inl e) = subst (λ x. Among x (fired h)) (sym e) (task_among (fired h) t (fired_has h t facts.fired))

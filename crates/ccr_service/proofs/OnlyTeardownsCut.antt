@@ -9,6 +9,7 @@ use Rattle.ccr_base.specs.declared.names.Spot.{Spot}
 use Rattle.ccr_base.specs.declared.names.Spot.TheVariants.{Branch, Site}
 use Rattle.ccr_base.specs.declared.policies.Policy.TheVariants.{Discard}
 use Rattle.ccr_base.specs.Names.{has_task}
+use Rattle.ccr_base.proofs.Booleans.{no_both, not_false, not_true, refuted}
 use Rattle.ccr_wiring.specs.Wirings.{Placement, placement, branch_of, policy_of}
 use Rattle.ccr_model.specs.declared.history.Event.{Event}
 use Rattle.ccr_model.specs.declared.history.Event.TheVariants.{Post, Fire, Admit, Put, Start, End}
@@ -25,7 +26,7 @@ use Rattle.ccr_model.proofs.Cutting.{fired_by-append}
 use Rattle.ccr_model.proofs.AllowedDrops.{drop_allowed}
 use Rattle.ccr_laws.proofs.DroppingPuts.{some_put}
 use Rattle.ccr_model.proofs.AllowedFirings.{FiresSo-allowed}
-use Rattle.ccr_model.proofs.TaskLists.{of_more}
+use Rattle.ccr_model.proofs.TaskLists.{of_more, none_before}
 use Rattle.ccr_model.proofs.WhoWasPut.{placement_by}
 use Rattle.ccr_service.specs.declared.parts.ServiceParts.{ServiceParts}
 use Rattle.ccr_service.specs.Expansion.{expansion}
@@ -36,8 +37,7 @@ abbrev teardown_placement : Placement → Bool
 teardown_placement r = (r.domain == 0) && is_teardown r.branch.group
 
 some_more : (ts us : List TaskId) → not (is_none_of ts) ≡ true → not (is_none_of (ts ++ us)) ≡ true
-some_more [] us is = absurd (cc)
-some_more (t ∷ ts) us is = grind (arith, nat_tests)
+some_more ts us is = not_false (is_none_of (ts ++ us)) (refuted (is_none_of (ts ++ us)) (λ none. no_both (none_before ts us none) (not_true (is_none_of ts) is)))
 
 some_behind : (ts us : List TaskId) (t : TaskId) → not (is_none_of (ts ++ t ∷ us)) ≡ true
 some_behind [] us t = grind (arith, nat_tests)

@@ -1,7 +1,7 @@
 -- Without awaits a quiet history is still.
-use Rattle.std.proofs.Common.{◌≡◌, ℕ, ◌+◌, ◌<◌, ◌≤◌, Bool, true, false, ◌||◌, List, [], ◌∷◌, ◌++◌, length, Some, None, refl, sym, ap, ◌∙◌, arith, subst}
+use Rattle.std.proofs.Common.{◌≡◌, ℕ, ◌+◌, ◌<◌, ◌≤◌, Bool, true, false, List, [], ◌∷◌, ◌++◌, length, Some, None, refl, sym, ap, ◌∙◌, arith, subst}
 use Rattle.std.specs.Prelude.{◌==◌, if◌then◌else◌, option_map}
-use Rattle.std.specs.List.{slice_get, list_any, list_all}
+use Rattle.std.specs.List.{slice_get, list_all}
 use Rattle.ccr_base.specs.declared.names.TaskId.{TaskId}
 use Rattle.ccr_base.specs.Names.{same_task, has_task, without}
 use Rattle.ccr_wiring.specs.declared.parts.Parts.{Parts}
@@ -12,7 +12,7 @@ use Rattle.ccr_model.specs.declared.history.Event.TheVariants.{Admit, Put}
 use Rattle.ccr_model.specs.Firings.{Firing, firing_named, cut, ever_admitted, put, dropped, started, ended, last_segments}
 use Rattle.ccr_model.specs.Sites.{root_of}
 use Rattle.ccr_model.specs.TaskData.{placement_of}
-use Rattle.ccr_model.specs.Tasks.{waiting, admitted, queued, running, is_over, is_for_queue, is_interleave, is_concurrent}
+use Rattle.ccr_model.specs.Tasks.{waiting, admitted, queued, running, is_for_queue, is_interleave, is_concurrent}
 use Rattle.ccr_model.specs.Live.{is_none_of}
 use Rattle.ccr_model.specs.Rules.{may_put, may_admit, drop_at, is_oldest_waiting, is_concurrent_task, needs_no_admission}
 use Rattle.ccr_model.specs.Order.{first, post_from, fire_from, admit_from, put_first, run_task, start_from}
@@ -22,13 +22,13 @@ use Rattle.ccr_base.proofs.Booleans.{both, no_both, or_left, or_right, refuted, 
 use Rattle.ccr_model.proofs.QuietAllowsNone.{start_none, none_if_quiet}
 use Rattle.ccr_base.proofs.Options.{none_or, none_map, no_head, some_of}
 use Rattle.ccr_model.proofs.FiredTasks.{IsFired, placement_fired}
-use Rattle.ccr_base.proofs.SameNames.{same_task-self, same_task-is}
+use Rattle.ccr_base.proofs.SameNames.{same_task-self}
 use Rattle.ccr_model.specs.Interleaves.{is_placement_in}
 use Rattle.ccr_model.proofs.TaskLists.{to_filter, to_without, not_more, no_members}
 use Rattle.ccr_model.proofs.WhoWasPut.{placement_by, QueuedFacts-queued}
 use Rattle.ccr_model.proofs.AllowedFirings.{BranchFacts-where, WaitingFacts-waiting}
 use Rattle.ccr_model.proofs.Cutting.{CutFacts-legal}
-use Rattle.ccr_model.proofs.Roots.{root_own, AdmittedFacts, AdmittedFacts-admitted}
+use Rattle.ccr_model.proofs.Roots.{root_own, AdmittedFacts, AdmittedFacts-admitted, over_so}
 use Rattle.ccr_model.proofs.Allowing.{OneName-legal}
 use Rattle.ccr_service.specs.Stillness.{HasNoAwaits, IsStill}
 use Rattle.ccr_service.proofs.NoAwaits.{at_branches, none_yields, ended_last, dropped_last}
@@ -73,17 +73,6 @@ none_ready w h quiet t = refuted (may_put w h t) (λ is. quiet (Put t (drop_at w
 -- the tests of the readiness of a task that fired and was let in
 ready_so : (w : Parts) (h : List Event) (t : TaskId) (f : Firing) → firing_named h t ≡ Some f → has_task (put h) t ≡ false → has_task (cut h) t ≡ false → has_task (ever_admitted h) t ≡ true → may_put w h t ≡ true
 ready_so w h t f found unput uncut entered = rw (unput, uncut, found, entered) (or_right (needs_no_admission w f.spot) true refl)
-
-over_so : (h : List Event) (t : TaskId) → root_of h t ≡ t → has_task (last_segments h) t ≡ true → is_over h t ≡ true
-over_so h t own is = any_root (last_segments h) is
-  where
-    any_root : (ts : List TaskId) → has_task ts t ≡ true → list_any (λ task. same_task (root_of h task) t) ts ≡ true
-    any_root [] is = absurd (cc)
-    any_root (u ∷ ts) is = by_test (same_task t u) refl is (any_root ts)
-      where
-        by_test : (b : Bool) → same_task t u ≡ b → b || has_task ts t ≡ true → (has_task ts t ≡ true → list_any (λ task. same_task (root_of h task) t) ts ≡ true) → same_task (root_of h u) t || list_any (λ task. same_task (root_of h task) t) ts ≡ true
-        by_test true e at rest = let one = same_task-is t u e in or_left _ _ (subst (λ x. same_task (root_of h x) t ≡ true) one (rw own (same_task-self t)))
-        by_test false e at rest = or_right _ _ (rest at)
 
 for_its : (w : Parts) (h : List Event) (t : TaskId) (s : Placement) → placement_of w h t ≡ Some s → is_for_queue w h s.branch.queue t ≡ true
 for_its w h t s at = rw at (eq-self s.branch.queue)

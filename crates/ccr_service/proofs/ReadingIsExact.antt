@@ -1,7 +1,6 @@
 -- Reading finds in a service text what the grammar says of it, both ways.
 use Rattle.std.proofs.Common.{◌≡◌, ◌⊎◌, inl, inr, ℕ, ◌+◌, ◌<◌, Bool, true, false, not, List, [], ◌∷◌, ◌++◌, length, Option, Some, None, Result, Ok, Err, IfOk, IfErr, refl, sym, ap, ◌∙◌, arith, subst, append-nil}
-use Rattle.std.specs.Prelude.{◌==◌, codes, if◌then◌else◌, nat_lt, is_some, max}
-use Rattle.std.specs.Option.{option_and_then}
+use Rattle.std.specs.Prelude.{◌==◌, codes, if◌then◌else◌, max}
 use Rattle.std.specs.Str.{bytes_eq}
 use Rattle.std.proofs.lemmas.Bool.Decides.{nat_tests}
 use Rattle.ccr_base.specs.declared.policies.Policy.{Policy}
@@ -22,58 +21,21 @@ use Rattle.ccr_wiretext.specs.Reading.{at_line}
 use Rattle.ccr_base.proofs.Booleans.{both, not_true, refuted}
 use Rattle.ccr_base.proofs.Texts.{same_word as keyed}
 use Rattle.ccr_wiretext.proofs.FieldsRead.{number_said, number_read, within_said, within_read, policy_said, policy_read}
-use Rattle.ccr_service.specs.declared.names.OpOrClient.{OpOrClient}
 use Rattle.ccr_service.specs.declared.names.OpOrClient.TheVariants as named
 use Rattle.ccr_service.specs.declared.parts.AskPart.{AskPart}
 use Rattle.ccr_service.specs.declared.parts.ClientPart.{ClientPart}
 use Rattle.ccr_service.specs.declared.parts.OpPart.{OpPart}
 use Rattle.ccr_service.specs.declared.parts.ServiceParts.{ServiceParts}
-use Rattle.ccr_service.specs.Naming.{Naming, as_op}
+use Rattle.ccr_service.specs.Naming.{Naming}
 use Rattle.ccr_service.specs.Fields.{new_name, op_name, group, expr, bound}
 use Rattle.ccr_service.specs.Drafts.{Drafted, with_policy, with_op, with_client, with_ask, end_client, policy_form, op_form, client_form, ask_form, outside_line, client_line, apart, line_in}
 use Rattle.ccr_service.specs.Reading.{So, is_version, after_words, after_all, after_line, closed, at_end, reading_after, reading_text}
 use Rattle.ccr_wiretext.specs.Answers.{IsReading}
-use Rattle.ccr_wiretext.proofs.ReadTellsSteps.{bind_ok as then_ok}
-use Rattle.ccr_service.specs.Services.{is_service_name}
+use Rattle.ccr_wiretext.proofs.ReadTellsSteps.{bind_ok as then_ok, ok_is, limit_read}
 use Rattle.ccr_service.specs.Grammar.{IsNew, IsGroup, IsExpr, IsBound, IsOp, IsAsk, IsPolicyLine, IsClient, IsLine, Declares, IsWhole, Says, IsText, IsNoText}
-use Rattle.ccr_service.proofs.Keeping.{same_ok, reading_on, group_by}
+use Rattle.ccr_service.proofs.Keeping.{new_said, op_said, reading_on, group_by}
 
 -- ---- what is read is said: fields
-
-record NewSaid (names : Naming) (words : Words) (p : List ℕ × Words) : Type 0 where
-  spelled : words ≡ p.0 ∷ p.1
-  new : IsNew names p.0
-
-new_said : (names : Naming) (words : Words) (p : List ℕ × Words) → new_name names words ≡ Ok p → NewSaid names words p
-unfolding new_name
-new_said names words p e =
-    let a = then_ok (word words) _ p e in
-    let b = then_ok (unless (is_service_name a.0.0) 14) _ p a.2 in
-    let c = then_ok (unless (not (is_some (meaning_of names a.0.0))) 6) _ p b.2 in
-    let same : a.0 ≡ p = same_ok c.2 in
-    subst (NewSaid names words) same (record { spelled = word_ok words a.0 a.1; new = record { formed = unless_ok (is_service_name a.0.0) 14 b.0 b.1; new = none (meaning_of names a.0.0) (unless_ok _ 6 c.0 c.1) } })
-  where
-    none : (o : Option OpOrClient) → not (is_some o) ≡ true → o ≡ None
-    none None is = refl
-    none (Some n) is = absurd (cc)
-
-record OpSaid (names : Naming) (words : Words) (p : ℕ × Words) : Type 0 where
-  name : List ℕ
-  spelled : words ≡ name ∷ p.1
-  refers : meaning_of names name ≡ Some (named.Op p.0)
-
-op_said : (names : Naming) (words : Words) (p : ℕ × Words) → op_name names words ≡ Ok p → OpSaid names words p
-unfolding op_name
-op_said names words p e =
-    let a = then_ok (word words) _ p e in
-    let b = then_ok (or_code (option_and_then as_op (meaning_of names a.0.0)) 7) _ p a.2 in
-    let same : (b.0, a.0.1) ≡ p = same_ok b.2 in
-    subst (OpSaid names words) same (record { name = a.0.0; spelled = word_ok words a.0 a.1; refers = of_op (meaning_of names a.0.0) b.0 (or_code_ok _ 7 b.0 b.1) })
-  where
-    of_op : (o : Option OpOrClient) (k : ℕ) → option_and_then as_op o ≡ Some k → o ≡ Some (named.Op k)
-    of_op None k is = absurd (cc)
-    of_op (Some named.Client) k is = absurd (cc)
-    of_op (Some (named.Op n)) k is = let same : n ≡ k = cc in ap (λ i. Some (named.Op i)) same
 
 record GroupSaid (words : Words) (p : Group × Words) : Type 0 where
   word : List ℕ
@@ -87,9 +49,9 @@ group_said words p e =
     by_first a.0.0 a.0.1 (word_ok words a.0 a.1) (bytes_eq a.0.0 (codes "teardown")) refl (bytes_eq a.0.0 (codes "exclusive")) refl (bytes_eq a.0.0 (codes "concurrent")) refl a.2
   where
     by_first : (name : List ℕ) (rest : Words) → words ≡ name ∷ rest → (x : Bool) → bytes_eq name (codes "teardown") ≡ x → (y : Bool) → bytes_eq name (codes "exclusive") ≡ y → (z : Bool) → bytes_eq name (codes "concurrent") ≡ z → group_by x y z rest ≡ Ok p → GroupSaid words p
-    by_first name rest whole true ex y ey z ez is = subst (GroupSaid words) (same_ok is) (record { word = name; spelled = whole; is = keyed name (codes "teardown") ex })
-    by_first name rest whole false ex true ey z ez is = subst (GroupSaid words) (same_ok is) (record { word = name; spelled = whole; is = keyed name (codes "exclusive") ey })
-    by_first name rest whole false ex false ey true ez is = subst (GroupSaid words) (same_ok is) (record { word = name; spelled = whole; is = keyed name (codes "concurrent") ez })
+    by_first name rest whole true ex y ey z ez is = subst (GroupSaid words) (ok_is _ _ is) (record { word = name; spelled = whole; is = keyed name (codes "teardown") ex })
+    by_first name rest whole false ex true ey z ez is = subst (GroupSaid words) (ok_is _ _ is) (record { word = name; spelled = whole; is = keyed name (codes "exclusive") ey })
+    by_first name rest whole false ex false ey true ez is = subst (GroupSaid words) (ok_is _ _ is) (record { word = name; spelled = whole; is = keyed name (codes "concurrent") ez })
     by_first name rest whole false ex false ey false ez is = absurd (cc)
 
 record ExprSaid (words : Words) (p : Expr × Words) : Type 0 where
@@ -107,15 +69,15 @@ expr_said words p e =
     by_first a.0.0 a.0.1 (word_ok words a.0 a.1) (bytes_eq a.0.0 (codes "sum")) refl (bytes_eq a.0.0 (codes "count")) refl (bytes_eq a.0.0 (codes "arg")) refl a.2
   where
     by_first : (name : List ℕ) (rest : Words) → words ≡ name ∷ rest → (x : Bool) → bytes_eq name (codes "sum") ≡ x → (y : Bool) → bytes_eq name (codes "count") ≡ y → (z : Bool) → bytes_eq name (codes "arg") ≡ z → expr_by x y z name rest ≡ Ok p → ExprSaid words p
-    by_first name rest whole true ex y ey z ez is = subst (ExprSaid words) (same_ok is) (record { front = name ∷ []; spelled = whole; is = ap (λ w. w ∷ []) (keyed name (codes "sum") ex) })
-    by_first name rest whole false ex true ey z ez is = subst (ExprSaid words) (same_ok is) (record { front = name ∷ []; spelled = whole; is = ap (λ w. w ∷ []) (keyed name (codes "count") ey) })
+    by_first name rest whole true ex y ey z ez is = subst (ExprSaid words) (ok_is _ _ is) (record { front = name ∷ []; spelled = whole; is = ap (λ w. w ∷ []) (keyed name (codes "sum") ex) })
+    by_first name rest whole false ex true ey z ez is = subst (ExprSaid words) (ok_is _ _ is) (record { front = name ∷ []; spelled = whole; is = ap (λ w. w ∷ []) (keyed name (codes "count") ey) })
     by_first name rest whole false ex false ey true ez is =
         let n = then_ok (number_within 0 65535 rest) _ p is in
         let said = within_said 0 65535 rest n.0 n.1 in
-        subst (ExprSaid words) (same_ok n.2) (record { front = name ∷ said.0 ∷ []; spelled = whole ∙ ap (λ (ws : Words). name ∷ ws) said.1; is = (said.0, ap (λ w. w ∷ said.0 ∷ []) (keyed name (codes "arg") ez), said.2) })
+        subst (ExprSaid words) (ok_is _ _ n.2) (record { front = name ∷ said.0 ∷ []; spelled = whole ∙ ap (λ (ws : Words). name ∷ ws) said.1; is = (said.0, ap (λ w. w ∷ said.0 ∷ []) (keyed name (codes "arg") ez), said.2) })
     by_first name rest whole false ex false ey false ez is =
         let n = then_ok (or_code (number_of name) 5) _ p is in
-        subst (ExprSaid words) (same_ok n.2) (record { front = name ∷ []; spelled = whole; is = (name, n.0, refl, refl, or_code_ok (number_of name) 5 n.0 n.1) })
+        subst (ExprSaid words) (ok_is _ _ n.2) (record { front = name ∷ []; spelled = whole; is = (name, n.0, refl, refl, or_code_ok (number_of name) 5 n.0 n.1) })
 
 record BoundSaid (words : Words) (p : Option ℕ × Words) : Type 0 where
   front : Words
@@ -124,14 +86,14 @@ record BoundSaid (words : Words) (p : Option ℕ × Words) : Type 0 where
 
 bound_said : (words : Words) (p : Option ℕ × Words) → bound words ≡ Ok p → BoundSaid words p
 unfolding bound
-bound_said [] p e = subst (BoundSaid []) (same_ok e) (record { front = []; spelled = refl; is = refl })
+bound_said [] p e = subst (BoundSaid []) (ok_is _ _ e) (record { front = []; spelled = refl; is = refl })
 bound_said (first ∷ words) p e = by_first (bytes_eq first (codes "below")) refl e
   where
     by_first : (x : Bool) → bytes_eq first (codes "below") ≡ x → (if x then (number words >>= λ most. Ok (Some most.0, most.1)) else Err 3) ≡ Ok p → BoundSaid (first ∷ words) p
     by_first true ex is =
         let n = then_ok (number words) _ p is in
         let said = number_said words n.0 n.1 in
-        subst (BoundSaid (first ∷ words)) (same_ok n.2) (record { front = first ∷ said.0 ∷ []; spelled = ap (λ (ws : Words). first ∷ ws) said.1; is = (said.0, ap (λ w. w ∷ said.0 ∷ []) (keyed first (codes "below") ex), said.2) })
+        subst (BoundSaid (first ∷ words)) (ok_is _ _ n.2) (record { front = first ∷ said.0 ∷ []; spelled = ap (λ (ws : Words). first ∷ ws) said.1; is = (said.0, ap (λ w. w ∷ said.0 ∷ []) (keyed first (codes "below") ex), said.2) })
     by_first false ex is = absurd (cc)
 
 -- ---- what is read is said: lines
@@ -146,7 +108,7 @@ op_line_said d words part e =
     let g = then_ok (bound f.0.1) _ part f.2 in
     let h = then_ok (no_more g.0.1) _ part g.2 in
     let made : OpPart = record { name = b.0.0; group = c.0.0; expr = f.0.0; below = g.0.0 } in
-    let same : made ≡ part = same_ok h.2 in
+    let same : made ≡ part = ok_is _ _ h.2 in
     let name = new_said d.names words b.0 b.1 in
     let kind = group_said b.0.1 c.0 c.1 in
     let value = expr_said c.0.1 f.0 f.1 in
@@ -163,7 +125,7 @@ client_said d words name e =
     let c = then_ok (no_more b.0.1) _ name b.2 in
     let said = new_said d.names words b.0 b.1 in
     let whole : codes "client" ∷ words ≡ codes "client" ∷ b.0.0 ∷ [] = ap (λ (ws : Words). codes "client" ∷ ws) (said.spelled ∙ ap (λ (ws : Words). b.0.0 ∷ ws) (no_more_ok b.0.1 c.0 c.1)) in
-    subst (IsClient d (codes "client" ∷ words)) (same_ok c.2) (record { spelled = whole; room = limit_ok 16 (length d.parts.clients) a.0 a.1; new = said.new })
+    subst (IsClient d (codes "client" ∷ words)) (ok_is _ _ c.2) (record { spelled = whole; room = limit_ok 16 (length d.parts.clients) a.0 a.1; new = said.new })
 
 ask_said : (d : Drafted) (words : Words) (ask : AskPart) → ask_form d words ≡ Ok ask → IsAsk d (codes "ask" ∷ words) ask
 unfolding ask_form
@@ -176,7 +138,7 @@ ask_said d words ask e =
     let value = number_said b.0.1 c.0 c.1 in
     let whole : codes "ask" ∷ words ≡ codes "ask" ∷ op.name ∷ value.0 ∷ [] = ap (λ (ws : Words). codes "ask" ∷ ws) (op.spelled ∙ ap (λ (ws : Words). op.name ∷ ws) (value.1 ∙ ap (λ (ws : Words). value.0 ∷ ws) (no_more_ok c.0.1 f.0 f.1))) in
     let made : AskPart = record { op = b.0.0; value = c.0.0 } in
-    let same : made ≡ ask = same_ok f.2 in
+    let same : made ≡ ask = ok_is _ _ f.2 in
     subst (IsAsk d (codes "ask" ∷ words)) same (record { name = op.name; digits = value.0; spelled = whole; room = limit_ok 10000 d.asks a.0 a.1; refers = op.refers; value = value.2 })
 
 rule_said : (d : Drafted) (words : Words) (rule : Policy) → policy_form d words ≡ Ok rule → IsPolicyLine d (codes "policy" ∷ words) rule
@@ -187,16 +149,16 @@ rule_said d words rule e =
     let c = then_ok (no_more b.0.1) _ rule b.2 in
     let said = policy_said words b.0 b.1 in
     let whole : codes "policy" ∷ words ≡ codes "policy" ∷ said.0 = ap (λ (ws : Words). codes "policy" ∷ ws) (said.1 ∙ ap (λ (ws : Words). said.0 ++ ws) (no_more_ok b.0.1 c.0 c.1) ∙ append-nil said.0) in
-    subst (IsPolicyLine d (codes "policy" ∷ words)) (same_ok c.2) (record { rest = said.0; spelled = whole; once = not_true d.policied (unless_ok (not d.policied) 13 a.0 a.1); says = said.2 })
+    subst (IsPolicyLine d (codes "policy" ∷ words)) (ok_is _ _ c.2) (record { rest = said.0; spelled = whole; once = not_true d.policied (unless_ok (not d.policied) 13 a.0 a.1); says = said.2 })
 
 outside_said : (d e : Drafted) (first : List ℕ) (words : Words) → outside_line d first words ≡ Ok e → IsLine None d (first ∷ words) e
 unfolding outside_line
 outside_said d e first words is = by_first (bytes_eq first (codes "policy")) refl (bytes_eq first (codes "op")) refl (bytes_eq first (codes "client")) refl is
   where
     by_first : (x : Bool) → bytes_eq first (codes "policy") ≡ x → (y : Bool) → bytes_eq first (codes "op") ≡ y → (z : Bool) → bytes_eq first (codes "client") ≡ z → (if x then (policy_form d words >>= λ rule. Ok (with_policy d rule)) else if y then (op_form d words >>= λ part. Ok (with_op d part)) else if z then (client_form d words >>= λ name. Ok (with_client d name)) else Err 3) ≡ Ok e → IsLine None d (first ∷ words) e
-    by_first true ex y ey z ez at = let a = then_ok (policy_form d words) _ e at in inl (a.0, subst (λ w. IsPolicyLine d (w ∷ words) a.0) (sym (keyed first (codes "policy") ex)) (rule_said d words a.0 a.1), sym (same_ok a.2))
-    by_first false ex true ey z ez at = let a = then_ok (op_form d words) _ e at in inr (inl (a.0, subst (λ w. IsOp d (w ∷ words) a.0) (sym (keyed first (codes "op") ey)) (op_line_said d words a.0 a.1), sym (same_ok a.2)))
-    by_first false ex false ey true ez at = let a = then_ok (client_form d words) _ e at in inr (inr (a.0, subst (λ w. IsClient d (w ∷ words) a.0) (sym (keyed first (codes "client") ez)) (client_said d words a.0 a.1), sym (same_ok a.2)))
+    by_first true ex y ey z ez at = let a = then_ok (policy_form d words) _ e at in inl (a.0, subst (λ w. IsPolicyLine d (w ∷ words) a.0) (sym (keyed first (codes "policy") ex)) (rule_said d words a.0 a.1), sym (ok_is _ _ a.2))
+    by_first false ex true ey z ez at = let a = then_ok (op_form d words) _ e at in inr (inl (a.0, subst (λ w. IsOp d (w ∷ words) a.0) (sym (keyed first (codes "op") ey)) (op_line_said d words a.0 a.1), sym (ok_is _ _ a.2)))
+    by_first false ex false ey true ez at = let a = then_ok (client_form d words) _ e at in inr (inr (a.0, subst (λ w. IsClient d (w ∷ words) a.0) (sym (keyed first (codes "client") ez)) (client_said d words a.0 a.1), sym (ok_is _ _ a.2)))
     by_first false ex false ey false ez at = absurd (cc)
 
 block_said : (d e : Drafted) (part : ClientPart) (first : List ℕ) (words : Words) → client_line d part first words ≡ Ok e → IsLine (Some part) d (first ∷ words) e
@@ -204,8 +166,8 @@ unfolding client_line
 block_said d e part first words is = by_first (bytes_eq first (codes "ask")) refl (bytes_eq first (codes "end")) refl is
   where
     by_first : (x : Bool) → bytes_eq first (codes "ask") ≡ x → (y : Bool) → bytes_eq first (codes "end") ≡ y → (if x then (ask_form d words >>= λ ask. Ok (with_ask d part ask)) else if y then (no_more words >>= λ done. Ok (end_client d part)) else Err 3) ≡ Ok e → IsLine (Some part) d (first ∷ words) e
-    by_first true ex y ey at = let a = then_ok (ask_form d words) _ e at in inl (a.0, subst (λ w. IsAsk d (w ∷ words) a.0) (sym (keyed first (codes "ask") ex)) (ask_said d words a.0 a.1), sym (same_ok a.2))
-    by_first false ex true ey at = let a = then_ok (no_more words) _ e at in inr (ap (λ w. w ∷ words) (keyed first (codes "end") ey) ∙ ap (λ (ws : Words). codes "end" ∷ ws) (no_more_ok words a.0 a.1), sym (same_ok a.2))
+    by_first true ex y ey at = let a = then_ok (ask_form d words) _ e at in inl (a.0, subst (λ w. IsAsk d (w ∷ words) a.0) (sym (keyed first (codes "ask") ex)) (ask_said d words a.0 a.1), sym (ok_is _ _ a.2))
+    by_first false ex true ey at = let a = then_ok (no_more words) _ e at in inr (ap (λ w. w ∷ words) (keyed first (codes "end") ey) ∙ ap (λ (ws : Words). codes "end" ∷ ws) (no_more_ok words a.0 a.1), sym (ok_is _ _ a.2))
     by_first false ex false ey at = absurd (cc)
 
 line_said : (d e : Drafted) (o : Option ClientPart) (first : List ℕ) (words : Words) → line_in o d first words ≡ Ok e → IsLine o (apart d) (first ∷ words) e
@@ -217,13 +179,13 @@ words_said : (so new : So) (first : List ℕ) (words : Words) → after_words so
 unfolding after_words
 words_said None new first words is =
     let a = then_ok (unless (is_version (first ∷ words)) 2) _ new is in
-    (version words (unless_ok (is_version (first ∷ words)) 2 a.0 a.1), sym (same_ok a.2))
+    (version words (unless_ok (is_version (first ∷ words)) 2 a.0 a.1), sym (ok_is _ _ a.2))
   where
     version : (ws : Words) → is_version (first ∷ ws) ≡ true → first ∷ ws ≡ codes "service" ∷ codes "1" ∷ []
     version [] v = absurd (cc)
     version (second ∷ []) v = let parts = both (bytes_eq first (codes "service")) (bytes_eq second (codes "1")) v in ap (λ w. w ∷ second ∷ []) (keyed first (codes "service") parts.0) ∙ ap (λ w. codes "service" ∷ w ∷ []) (keyed second (codes "1") parts.1)
     version (second ∷ third ∷ ws) v = absurd (cc)
-words_said (Some d) new first words is = let a = then_ok (line_in d.block d first words) _ new is in (a.0, sym (same_ok a.2), line_said d a.0 d.block first words a.1)
+words_said (Some d) new first words is = let a = then_ok (line_in d.block d first words) _ new is in (a.0, sym (ok_is _ _ a.2), line_said d a.0 d.block first words a.1)
 
 -- a line is skipped or declares
 abbrev LineSaid : So → Words → So → Type 0
@@ -231,12 +193,12 @@ LineSaid so words new = (IsSkipped words × (new ≡ so)) ⊎ Declares so words 
 
 all_said : (so new : So) (words : Words) → after_all so words ≡ Ok new → LineSaid so words new
 unfolding after_all
-all_said so new [] is = inl (inl refl, sym (same_ok is))
+all_said so new [] is = inl (inl refl, sym (ok_is _ _ is))
 all_said so new ([] ∷ words) is = inr (words_said so new [] words is)
 all_said so new ((b ∷ bytes) ∷ words) is = by_comment (b == 35) refl is
   where
     by_comment : (t : Bool) → (b == 35) ≡ t → (if t then Ok so else after_words so (b ∷ bytes) words) ≡ Ok new → LineSaid so ((b ∷ bytes) ∷ words) new
-    by_comment true e at = let hash : b ≡ 35 = grind (arith, nat_tests, e) in inl (inr (bytes, words, ap (λ x. (x ∷ bytes) ∷ words) hash), sym (same_ok at))
+    by_comment true e at = let hash : b ≡ 35 = grind (arith, nat_tests, e) in inl (inr (bytes, words, ap (λ x. (x ∷ bytes) ∷ words) hash), sym (ok_is _ _ at))
     by_comment false e at = inr (words_said so new (b ∷ bytes) words at)
 
 end_said : (so : So) (parts : ServiceParts) → at_end so ≡ Ok parts → IsWhole so parts
@@ -250,7 +212,7 @@ end_said (Some d) parts is = by_block d.block refl is
         let a = then_ok (unless (not (length d.parts.ops == 0)) 11) _ parts at in
         let some = unless_ok (not (length d.parts.ops == 0)) 11 a.0 a.1 in
         let least : 0 < length d.parts.ops = grind (arith, nat_tests, some) in
-        record { draft = d; so_far = refl; closed = e; some = least; whole = same_ok a.2 }
+        record { draft = d; so_far = refl; closed = e; some = least; whole = ok_is _ _ a.2 }
 
 abbrev line_by : Bool → So → Words → Result So ℕ
 line_by t so words = if t then after_all so words else Err 1
@@ -298,7 +260,7 @@ no_key : (digits key : List ℕ) (n : ℕ) → IsNumber digits n → number_of k
 no_key digits key n is none = refuted (bytes_eq digits key) (λ e. let same = keyed digits key e in let gone : None ≡ Some n = sym none ∙ ap number_of (sym same) ∙ is in absurd (cc))
 
 room_read : (limit count : ℕ) → count < limit → limited limit count ≡ Ok tt
-room_read limit count lt = let is : nat_lt count limit ≡ true = grind (arith, nat_tests, lt) in rw is refl
+room_read limit count lt = rw (limit_read limit count lt) refl
 
 new_read : (names : Naming) (name : List ℕ) (rest : Words) → IsNew names name → new_name names (name ∷ rest) ≡ Ok (name, rest)
 unfolding new_name

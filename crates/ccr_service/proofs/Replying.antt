@@ -21,7 +21,7 @@ use Rattle.ccr_model.specs.Rules.{refusal_of_post, is_play_post, is_post}
 use Rattle.ccr_model.specs.Legal.{IsAllowed, IsLegal}
 use Rattle.ccr_base.proofs.Booleans.{both, no_both}
 use Rattle.ccr_base.proofs.Options.{some_of}
-use Rattle.ccr_model.proofs.Members.{Among, Among-either}
+use Rattle.ccr_model.proofs.Members.{Among, Among-either, Among-filter}
 use Rattle.ccr_model.proofs.PostNames.{refused_not, times, posted_once}
 use Rattle.ccr_model.proofs.LegalParts.{along_legal}
 use Rattle.ccr_model.proofs.OneMoreEvent.{posts-push, started-push}
@@ -30,7 +30,7 @@ use Rattle.ccr_model.proofs.Stable.{firing_named-append, play_of-append}
 use Rattle.ccr_model.proofs.Ending.{RunningFacts-running}
 use Rattle.ccr_model.proofs.FiredTasks.{IsFired}
 use Rattle.ccr_model.proofs.TaskLists.{among_left}
-use Rattle.ccr_model.proofs.WhoWasPut.{ArePlaced-legal}
+use Rattle.ccr_model.proofs.WhoWasPut.{started_fired}
 use Rattle.ccr_service.specs.declared.parts.ServiceParts.{ServiceParts}
 use Rattle.ccr_service.specs.Expansion.{expansion}
 use Rattle.ccr_service.specs.Replies.{posted_by}
@@ -39,7 +39,7 @@ use Rattle.ccr_service.proofs.Plays.{TakesAsk-legal, play_is, one_post}
 
 -- who runs has fired
 pub running_fired : (w : Parts) (h : List Event) → IsLegal w h → (t : TaskId) → has_task (running h) t ≡ true → IsFired h t
-running_fired w h legal t is = let placed = ArePlaced-legal w h legal in placed.all_fired t (placed.lists.put_started t (RunningFacts-running h t is).started_so)
+running_fired w h legal t is = started_fired w h legal t (RunningFacts-running h t is).started_so
 
 -- a task's play has one post
 pub one_play : (s : ServiceParts) (h : List Event) → IsLegal (expansion s) h → (t : TaskId) → IsFired h t → (x : Sent) × ((play_of (expansion s) h t).posts ≡ x ∷ [])
@@ -137,12 +137,7 @@ few_posts s h legal t =
     omega (arith, few, once)
 
 of_its : (p : Msg → Bool) (ms : List Msg) (m : Msg) (more : List Msg) → filter p ms ≡ m ∷ more → Among m ms × (p m ≡ true)
-of_its p [] m more is = absurd (cc)
-of_its p (x ∷ ms) m more is = by_test (p x) refl is (of_its p ms m more)
-  where
-    by_test : (b : Bool) → p x ≡ b → (if b then x ∷ filter p ms else filter p ms) ≡ m ∷ more → (filter p ms ≡ m ∷ more → Among m ms × (p m ≡ true)) → Among m (x ∷ ms) × (p m ≡ true)
-    by_test true e all others = let same : m ≡ x = cc in (inl same, ap p same ∙ e)
-    by_test false e all others = let rest = others all in (inr rest.0, rest.1)
+of_its p ms m more is = Among-filter p ms m (subst (Among m) (sym is) (inl refl))
 
 -- what a task posted is nothing or its reply
 pub record HasReplied (s : ServiceParts) (h : List Event) (t : TaskId) : Type 0 where

@@ -16,7 +16,7 @@ use Rattle.ccr_wiring.specs.declared.parts.Kind.TheVariants as kinds
 use Rattle.ccr_wiring.specs.Wirings.{Placement, placement, placements, in_domain, actions_of, awaited}
 use Rattle.ccr_wiring.specs.Wirings as wirings
 use Rattle.ccr_wiring.specs.Valid.{HasQueues}
-use Rattle.ccr_model.proofs.Members.{Among, Among-left, Among-right, Among-either, Among-at, index_of}
+use Rattle.ccr_model.proofs.Members.{Among, Among-left, Among-right, Among-either, Among-at, index_of, Among-map, Among-mapped}
 use Rattle.ccr_wiring.proofs.Positions.{get-front, get-back}
 use Rattle.ccr_service.specs.declared.parts.OpPart.{OpPart}
 use Rattle.ccr_service.specs.declared.parts.ServiceParts.{ServiceParts}
@@ -81,16 +81,6 @@ placements_are s = ap (map (in_domain [])) (append-nil (map seated (branches_fro
     alone [] = refl
     alone (b ∷ bs) = ap (λ (rs : List Placement). seated b ∷ rs) (alone bs)
 
-among_map : (bs : List BranchPart) (r : Placement) → Among r (map seated bs) → (b : BranchPart) × Among b bs × (r ≡ seated b)
-among_map [] r among = absurd among
-among_map (b ∷ bs) r (inl e) = (b, inl refl, e)
-among_map (b ∷ bs) r (inr more) = let rest = among_map bs r more in (rest.0, inr rest.1, rest.2)
-
-map_among : (bs : List BranchPart) (b : BranchPart) → Among b bs → Among (seated b) (map seated bs)
-map_among [] b among = absurd among
-map_among (c ∷ bs) b (inl e) = inl (ap seated e)
-map_among (c ∷ bs) b (inr more) = inr (map_among bs b more)
-
 -- what a placement of an expansion is
 pub record PlacementFacts (s : ServiceParts) (r : Placement) : Type 0 where
   pub domain : r.domain ≡ 0
@@ -104,18 +94,18 @@ pub record PlacementFacts (s : ServiceParts) (r : Placement) : Type 0 where
 pub PlacementFacts-placement : (s : ServiceParts) (b : ℕ) (r : Placement) → placement (expansion s) b ≡ Some r → PlacementFacts s r
 PlacementFacts-placement s b r is =
     let among = subst (Among r) (placements_are s) (Among-at (placements (expansion s)) b r is) in
-    let found = among_map (branches_from (length s.ops) 0 s.ops) r among in
+    let found = Among-mapped seated (branches_from (length s.ops) 0 s.ops) r among in
     let its = serves_some (length s.ops) 0 s.ops found.0 found.1 in
     let e : 0 + its.0 ≡ its.0 = omega arith in
     let served = serves_by (length s.ops) its.0 its.1 its.1.below found.0 refl (subst (λ i. Among found.0 (op_branches (length s.ops) i its.1 its.1.below)) e its.3) in
     record {
-      domain = ap (λ (x : Placement). x.domain) found.2;
-      kind = ap (λ (x : Placement). x.kind) found.2;
+      domain = ap (λ (x : Placement). x.domain) (sym found.2);
+      kind = ap (λ (x : Placement). x.kind) (sym found.2);
       op = its.0;
       part = its.1;
       at = its.2;
       pred = served.0;
-      serves = subst (λ (x : BranchPart). Serves (length s.ops) its.0 its.1 x served.0) (sym (ap (λ (x : Placement). x.branch) found.2)) served.1;
+      serves = subst (λ (x : BranchPart). Serves (length s.ops) its.0 its.1 x served.0) (ap (λ (x : Placement). x.branch) found.2) served.1;
     }
 
 -- each value has a branch of the operation that takes it
@@ -141,7 +131,7 @@ TakesIt-op s op value part at =
     let its = takes_branch (length s.ops) op value part part.below refl in
     let e : op ≡ 0 + op = omega arith in
     let among = among_all (length s.ops) 0 op s.ops part its.0 at (subst (λ i. Among its.0 (op_branches (length s.ops) i part part.below)) e its.1) in
-    let index = index_of (placements (expansion s)) (seated its.0) (subst (Among (seated its.0)) (sym (placements_are s)) (map_among (branches_from (length s.ops) 0 s.ops) its.0 among)) in
+    let index = index_of (placements (expansion s)) (seated its.0) (subst (Among (seated its.0)) (sym (placements_are s)) (Among-map seated (branches_from (length s.ops) 0 s.ops) its.0 among)) in
     record { number = index.0; placement = seated its.0; is_placement = index.1; pred = its.2.0; part = part; serves = its.2.1; holds_so = its.2.2 }
 
 -- ---- handlers

@@ -30,7 +30,7 @@ use Rattle.ccr_model.specs.Rules.{refusal_of_post, is_script_line, is_play_post,
 use Rattle.ccr_model.specs.Legal.{IsAllowed, IsLegal}
 use Rattle.ccr_base.proofs.Booleans.{both, same_number}
 use Rattle.ccr_base.proofs.Options.{some_of, some_then}
-use Rattle.ccr_base.proofs.SameNames.{same_numbers-is}
+use Rattle.ccr_base.proofs.SameNames.{same_numbers-is, same_values}
 use Rattle.ccr_model.proofs.Members.{Among, Among-either}
 use Rattle.ccr_model.proofs.PostNames.{refused_not, posted_once}
 use Rattle.ccr_model.proofs.LegalParts.{along_legal}
@@ -67,16 +67,6 @@ ask_at : (client k : ℕ) (asks : List AskPart) (x : Sent) → slice_get (map (r
 ask_at client k [] x is = absurd (cc)
 ask_at client zero (a ∷ asks) x is = (a, refl, cc)
 ask_at client (suc k) (a ∷ asks) x is = ask_at client k asks x is
-
-pub same_values : (xs ys : List ℕ) → same_value xs ys ≡ true → xs ≡ ys
-same_values [] [] is = refl
-same_values [] (y ∷ ys) is = absurd (cc)
-same_values (x ∷ xs) [] is = absurd (cc)
-same_values (x ∷ xs) (y ∷ ys) is =
-    let parts = both (x == y) (same_value xs ys) is in
-    let one = same_number x y parts.0 in
-    let rest = same_values xs ys parts.1 in
-    cc
 
 pub record IsPost (m : Msg) (x : Sent) : Type 0 where
   pub port : m.port ≡ x.port

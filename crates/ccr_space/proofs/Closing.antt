@@ -4,11 +4,12 @@ use mathlib.Core.Logic.{dite}
 use mathlib.Core.Option.{some, some-injective, some-ne-none}
 use native.Mathlib.Decide.{ℕ_discrete}
 use Rattle.std.proofs.lemmas.Bool.{cases_lt}
-use Rattle.std.proofs.lemmas.List.Elements.{All-nil, All-cons, All-tail}
+use Rattle.std.proofs.lemmas.List.Elements.{All-nil, All-cons}
 use lib.ListN.{get_elem?}
 use Rattle.std.specs.Prelude.{All, slice_get}
 use Rattle.std.specs.List.{AllZip, count_by}
 use Rattle.std.specs.Option.{option_map_or}
+use Rattle.std.proofs.lemmas.List.{map-id}
 use Rattle.ccr_wiring.specs.declared.parts.Parts.{Parts}
 use Rattle.ccr_turns.specs.Histories.{Given, history_stamps, keeps}
 use Rattle.ccr_turns.specs.Logs.{at_place, told}
@@ -60,10 +61,6 @@ pub map_at : {P S : Type 0} (f : P → S) (xs : List P) (i : ℕ) (x : P) → ge
 map_at f [] i x at = absurd (some-ne-none x (sym at))
 map_at f (y ∷ ys) zero x at = ap (λ z. some (f z)) (some-injective y x at)
 map_at f (y ∷ ys) (suc i) x at = map_at f ys i x at
-
-pub all_mapped : {P S : Type 0} (Q : S → Type 0) (f : P → S) (xs : List P) → All (λ x. Q (f x)) xs → All Q (map f xs)
-all_mapped Q f [] all = All-nil Q
-all_mapped Q f (x ∷ xs) all = All-cons Q (f x) (map f xs) (all 0 x (omega arith)) (all_mapped Q f xs (All-tail (λ x. Q (f x)) x xs all))
 
 -- lists that look the same have the same at each place
 alike_at : {A B X : Type 0} (f : A → X) (g : B → X) (z : X) (xs : List A) (ys : List B) (p : ℕ) (x : A) → map f xs ≡ map g ys → slice_get xs p ≡ Some x → option_map_or g (slice_get ys p) z ≡ f x
@@ -167,12 +164,8 @@ found f k (x ∷ xs) one = dite (ℕ_discrete (f x) k)
     let (i, y, at, is) = found f k xs (omega arith) in
     (suc i, y, at, is))
 
-map-same : {S : Type 0} (xs : List S) → map (λ (x : S). x) xs ≡ xs
-map-same [] = refl
-map-same (x ∷ xs) = λ i. x ∷ map-same xs i
-
 pub numbered : {S : Type 0} (f : S → ℕ) (k : ℕ) (xs : List S) → count_by (λ x. eqb (f x) k) xs ≡ 1 → (i : ℕ) × (x : S) × (get_elem? xs i ≡ some x) × (f x ≡ k)
-numbered f k xs one = found f k xs (sym (ap (total (λ x. only k (f x))) (map-same xs)) ∙ (count-map (λ x. x) f k xs ∙ one))
+numbered f k xs one = found f k xs (sym (ap (total (λ x. only k (f x))) (map-id xs)) ∙ (count-map (λ x. x) f k xs ∙ one))
 
 pub all_rising : (n : ℕ) (objects : List PlaceObject) (kept : List (PlaceObject × List (Held Deed))) → AllZip (IsLeft placed after_deed IsGiven n) objects kept → All (λ (left : PlaceObject × List (Held Deed)). Rises 0 (history_stamps left.1)) kept
 all_rising n [] [] all = All-nil (λ (left : PlaceObject × List (Held Deed)). Rises 0 (history_stamps left.1))

@@ -1,7 +1,8 @@
 -- The passes before their first steps.
-use Rattle.std.proofs.Common.{◌≡◌, ℕ, zero, suc, ◌+◌, List, [], map, length, sym, refl, ap, ◌∙◌, subst}
+use Rattle.std.proofs.Common.{◌≡◌, ℕ, List, [], map, length, sym, refl, ap, ◌∙◌, subst}
 use Rattle.std.specs.List.{range_with_len}
 use Rattle.std.proofs.lemmas.List.{length-map}
+use Rattle.std.proofs.lemmas.List.FromFn.{length-range_with_len}
 use Rattle.ccr_wiring.specs.declared.parts.Parts.{Parts}
 use Rattle.ccr_turns.specs.declared.history.LogEntry.{LogEntry}
 use Rattle.ccr_object.specs.declared.deed.Deed.{Deed}
@@ -18,9 +19,5 @@ pub begun : (wiring : Parts) (k n : ℕ) (logged : List (LogEntry Deed Placed)) 
 begun wiring k n logged a none is same =
     subst (λ (ms : List (LogEntry Deed Placed)). IsGoing wiring k ms a) (sym none) (subst (IsGoing wiring k []) (sym (is ∙ ap (started wiring) same)) (fresh wiring k))
 
-range_length : (q n : ℕ) → length (range_with_len q n) ≡ n
-range_length q zero = refl
-range_length q (suc n) = ap suc (range_length (q + 1) n)
-
 pub length_by_number : {S : Type 0} (number : S → ℕ) (n : ℕ) (xs : List S) → map number xs ≡ range_with_len 0 n → length xs ≡ n
-length_by_number number n xs is = sym (length-map xs number) ∙ (ap length is ∙ range_length 0 n)
+length_by_number number n xs is = sym (length-map xs number) ∙ (ap length is ∙ length-range_with_len 0 n)

@@ -22,8 +22,9 @@ use Rattle.ccr_base.proofs.Options.{some_of}
 use Rattle.ccr_model.proofs.LegalParts.{along_legal}
 use Rattle.ccr_model.proofs.OneMoreEvent.{firings-push}
 use Rattle.ccr_model.proofs.TakenOnce.{FireFacts-allowed}
+use Rattle.ccr_gen.specs.Lines.{left}
 use Rattle.ccr_steady.specs.Flow.{posts_weigh, IsSteady, IsClosed, at_port, got, lacks, slots_of}
-use Rattle.ccr_steady.proofs.Paying.{times_at, due, left}
+use Rattle.ccr_steady.proofs.Paying.{times_at, due}
 use Rattle.ccr_steady.proofs.Sums.{summed_more}
 use Rattle.ccr_steady.proofs.Balance.{balance, took, branch_off, posted_at, times_push}
 

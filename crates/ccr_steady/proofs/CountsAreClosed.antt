@@ -1,7 +1,7 @@
 -- The counts of a quiet, complete history without a shed end are closed.
 use Rattle.std.proofs.Common.{◌≡◌, inl, inr, ℕ, zero, suc, ◌+◌, ◌*◌, ◌≤◌, Bool, true, false, not, List, [], ◌∷◌, ◌++◌, length, drop, Option, Some, None, refl, sym, ap, ◌∙◌, subst, append-nil, arith}
 use Rattle.std.specs.Prelude.{◌==◌, ◌&&◌, ◌||◌, if◌then◌else◌, nat_lt, is_some}
-use Rattle.std.specs.List.{slice_get, list_any}
+use Rattle.std.specs.List.{list_any}
 use Rattle.std.specs.Option.{option_map_or, option_map}
 use Rattle.std.proofs.lemmas.Bool.Decides.{nat_tests}
 use Rattle.ccr_base.specs.declared.names.TaskId.{TaskId}
@@ -20,12 +20,10 @@ use Rattle.ccr_base.specs.declared.policies.Policy.TheVariants as policies
 use Rattle.ccr_base.specs.Selection.{is_choosable}
 use Rattle.ccr_base.specs.Names.{same_task, has_task}
 use Rattle.ccr_wiring.specs.declared.parts.Parts.{Parts}
-use Rattle.ccr_wiring.specs.declared.parts.QueuePart.{QueuePart}
 use Rattle.ccr_wiring.specs.Wirings.{Placement, placement, placements, spots, policy_of, exception_port, branch_of, segment_of, actions_at}
 use Rattle.ccr_wiring.specs.Valid.{IsValid, IsSound}
-use Rattle.ccr_wiring.specs.Limits.{policy_is_outside, queue_is_outside}
-use Rattle.ccr_wiring.proofs.Lists.{none_at}
-use Rattle.ccr_wiring.proofs.Validity.{no_codes, within}
+use Rattle.ccr_wiring.specs.Limits.{policy_is_outside}
+use Rattle.ccr_wiring.proofs.Validity.{policy_inside}
 use Rattle.ccr_wiring.proofs.Soundness.{sound}
 use Rattle.ccr_handler.specs.Playing.{play}
 use Rattle.ccr_model.specs.declared.history.Event.{Event}
@@ -50,12 +48,13 @@ use Rattle.ccr_model.proofs.LegalParts.{along_legal}
 use Rattle.ccr_model.proofs.Members.{Among, all_from}
 use Rattle.ccr_model.proofs.PostNames.{refused_not}
 use Rattle.ccr_model.proofs.OneMoreEvent.{posts-push, ended-push, has_shed-push}
-use Rattle.ccr_base.proofs.SameNames.{same_task-is}
+use Rattle.ccr_base.proofs.SameNames.{same_task-is, has_task-append}
+use Rattle.ccr_base.proofs.Filters.{more_kept}
 use Rattle.ccr_model.proofs.Stable.{play_of-append}
-use Rattle.ccr_model.proofs.TasksLeft.{has_task-append, of_without, out_left}
+use Rattle.ccr_model.proofs.TasksLeft.{of_without, out_left}
 use Rattle.ccr_model.proofs.Ending.{AreEnded-legal, RunningFacts-running}
 use Rattle.ccr_model.proofs.AllowedFirings.{fired_by_named}
-use Rattle.ccr_model.proofs.WhoWasPut.{ArePlaced-legal}
+use Rattle.ccr_model.proofs.WhoWasPut.{started_fired}
 use Rattle.ccr_steady.specs.Flow.{IsSteady, IsClosed, weigh, at_port, got, lacks, slots_of, is_any, is_open_pattern, is_lasting}
 use Rattle.ccr_steady.proofs.Paying.{planned, due, times_at}
 use Rattle.ccr_steady.proofs.Tasks.{ports_length, calm_play, calm_at, calm_from}
@@ -73,12 +72,7 @@ use Rattle.ccr_gen.specs.Weights.{by_task}
 -- ---- without a shed end, who ended has posted all
 
 kept_front : (t : TaskId) (xs ys : List Msg) → by_task xs t ≤ by_task (xs ++ ys) t
-kept_front t [] ys = omega arith
-kept_front t (x ∷ xs) ys = by (is_message_of t x.id) refl (kept_front t xs ys)
-  where
-    by : (b : Bool) → is_message_of t x.id ≡ b → by_task xs t ≤ by_task (xs ++ ys) t → by_task (x ∷ xs) t ≤ by_task ((x ∷ xs) ++ ys) t
-    by true e more = rw e (omega (arith, more))
-    by false e more = rw e more
+kept_front t xs ys = more_kept (λ (m : Msg). is_message_of t m.id) xs ys
 
 stays_done : (w : Parts) (h : List Event) (e : Event) (t : TaskId) → IsFired h t → has_post_left w h t ≡ false → has_post_left w (h ++ e ∷ []) t ≡ false
 stays_done w h e t firing done =
@@ -92,14 +86,11 @@ stays_done w h e t firing done =
 abbrev AreDone : Parts → List Event → Type 0
 AreDone w h = has_shed h ≡ false → (t : TaskId) → has_task (ended h) t ≡ true → has_post_left w h t ≡ false
 
-pub ended_fired : (w : Parts) (h : List Event) → IsLegal w h → (t : TaskId) → has_task (started h) t ≡ true → IsFired h t
-ended_fired w h legal t is = let placed = ArePlaced-legal w h legal in placed.all_fired t (placed.lists.put_started t is)
-
 same_done : (w : Parts) (h : List Event) (e : Event) → IsLegal w h → ended (h ++ e ∷ []) ≡ ended h → AreDone w h → AreDone w (h ++ e ∷ [])
 same_done w h e legal same old unshed t is =
     let parts = neither (has_shed h) (is_shed_end e) (sym (has_shed-push h e) ∙ unshed) in
     let before : has_task (ended h) t ≡ true = subst (λ (ts : List TaskId). has_task ts t ≡ true) same is in
-    stays_done w h e t (ended_fired w h legal t ((AreEnded-legal w h legal).started_ended t before)) (old parts.0 t before)
+    stays_done w h e t (started_fired w h legal t ((AreEnded-legal w h legal).started_ended t before)) (old parts.0 t before)
 
 not_shed : (how : EndHow) (t : TaskId) → is_shed_end (events.End t how) ≡ false → is_shed how ≡ false
 not_shed ends.Done t is = refl
@@ -114,7 +105,7 @@ end_done w h t how legal allowed old unshed u is = by (has_task (ended h) u) ref
     parts = neither (has_shed h) (is_shed_end (events.End t how)) (sym (has_shed-push h (events.End t how)) ∙ unshed)
 
     by : (b : Bool) → has_task (ended h) u ≡ b → has_task (ended h) u || has_task (t ∷ []) u ≡ true → has_post_left w (h ++ events.End t how ∷ []) u ≡ false
-    by true e any = stays_done w h (events.End t how) u (ended_fired w h legal u ((AreEnded-legal w h legal).started_ended u e)) (old parts.0 u e)
+    by true e any = stays_done w h (events.End t how) u (started_fired w h legal u ((AreEnded-legal w h legal).started_ended u e)) (old parts.0 u e)
     by false e any =
         let own : has_task (t ∷ []) u ≡ true = subst (λ (b : Bool). b || has_task (t ∷ []) u ≡ true) e any in
         let mine : same_task u t ≡ true = or_none (same_task u t) own in
@@ -124,7 +115,7 @@ end_done w h t how legal allowed old unshed u is = by (has_task (ended h) u) ref
         let ways : not (has_post_left w h t) && Rattle.ccr_model.specs.Rules.ends_so how (play_of w h t).end ≡ true = subst (λ (b : Bool). (if b then Rattle.ccr_model.specs.Rules.may_shed w h t else not (has_post_left w h t) && Rattle.ccr_model.specs.Rules.ends_so how (play_of w h t).end) ≡ true) (not_shed how t parts.1) may in
         let none = not_true (has_post_left w h t) (both (not (has_post_left w h t)) _ ways).0 in
         let runs = RunningFacts-running h t a.0 in
-        subst (λ (x : TaskId). has_post_left w (h ++ events.End t how ∷ []) x ≡ false) (sym same) (stays_done w h (events.End t how) t (ended_fired w h legal t runs.started_so) none)
+        subst (λ (x : TaskId). has_post_left w (h ++ events.End t how ∷ []) x ≡ false) (sym same) (stays_done w h (events.End t how) t (started_fired w h legal t runs.started_so) none)
 
 done_kept : (w : Parts) (h : List Event) (e : Event) → IsLegal w h → IsAllowed w h e → AreDone w h → AreDone w (h ++ e ∷ [])
 done_kept w h (events.End t how) legal allowed old = end_done w h t how legal allowed old
@@ -189,14 +180,7 @@ live_in w steady h b i groups.Exclusive lasts = none_torn w steady h i
 live_in w steady h b i groups.Concurrent lasts = none_torn w steady h i
 
 some_most : (w : Parts) → IsValid w → (q n : ℕ) → policy_of w q ≡ policies.Throttle n → 1 ≤ n
-some_most w valid q n is = of_option (slice_get w.queues q) refl is
-  where
-    of_option : (o : Option QueuePart) → slice_get w.queues q ≡ o → option_map_or (λ (part : QueuePart). part.policy) o policies.Unbounded ≡ policies.Throttle n → 1 ≤ n
-    of_option None at policy = absurd (cc)
-    of_option (Some part) at policy =
-        let inside : queue_is_outside part ≡ false = none_at queue_is_outside w.queues q part (within w (no_codes w valid).limits).queues at in
-        let known : policy_is_outside (policies.Throttle n) ≡ false = subst (λ p. policy_is_outside p ≡ false) policy inside in
-        grind (arith, nat_tests, known)
+some_most w valid q n is = let inside : policy_is_outside (policies.Throttle n) ≡ false = subst (λ p. policy_is_outside p ≡ false) is (policy_inside w valid q) in grind (arith, nat_tests, inside)
 
 none_coming : (w : Parts) → IsSound w → IsSteady w → (h : List Event) → IsLegal w h → IsQuiet w h → (q : ℕ) → coming w h q ≡ []
 none_coming w sound steady h legal quiet q = no_members (coming w h q) (λ t is. (

@@ -1,6 +1,6 @@
 -- Where some closed list costs no more than the budget, no task is shed.
-use Rattle.std.proofs.Common.{◌≡◌, inl, inr, ℕ, zero, suc, ◌<◌, ◌≤◌, Bool, true, false, not, List, [], ◌∷◌, ◌++◌, length, drop, find, Some, None, refl, sym, ap, ◌∙◌, subst, append-nil, arith}
-use Rattle.std.specs.Prelude.{◌==◌, ◌&&◌, ◌||◌, if◌then◌else◌}
+use Rattle.std.proofs.Common.{◌≡◌, inl, inr, ℕ, zero, suc, ◌<◌, ◌≤◌, Bool, true, false, not, List, [], ◌∷◌, ◌++◌, length, drop, None, refl, sym, ◌∙◌, subst, append-nil, arith}
+use Rattle.std.specs.Prelude.{◌==◌, ◌&&◌, ◌||◌}
 use Rattle.std.proofs.lemmas.Bool.Decides.{nat_tests}
 use Rattle.ccr_base.specs.declared.names.TaskId.{TaskId}
 use Rattle.ccr_base.specs.declared.names.MsgId.{MsgId}
@@ -23,7 +23,7 @@ use Rattle.ccr_model.specs.Legal.{IsAllowed, IsLegal, IsQuiet, has_shed, is_comp
 use Rattle.ccr_base.proofs.Booleans.{both, no_both}
 use Rattle.ccr_model.specs.Counts.{is_shed as is_shed_end}
 use Rattle.ccr_model.proofs.LegalParts.{along_legal}
-use Rattle.ccr_model.proofs.Members.{Among, Among-left, found_among}
+use Rattle.ccr_model.proofs.Members.{Among, Among-left, found_among, find_passes}
 use Rattle.ccr_model.proofs.PostNames.{refused_not}
 use Rattle.ccr_model.proofs.OneMoreEvent.{posts-push, firings-push, ended-push, has_shed-push}
 use Rattle.ccr_base.proofs.SameNames.{same_task-is, same_task-self}
@@ -34,9 +34,10 @@ use Rattle.ccr_steady.proofs.Paying.{planned, due, times_at}
 use Rattle.ccr_steady.proofs.Sums.{summed_more}
 use Rattle.ccr_steady.proofs.Tasks.{by_other, by_script}
 use Rattle.ccr_steady.proofs.ClosedListsBound.{within_closed}
-use Rattle.ccr_steady.proofs.CountsAreClosed.{planned_length, ended_fired}
+use Rattle.ccr_steady.proofs.CountsAreClosed.{planned_length}
 use Rattle.ccr_steady.proofs.Counts.{posts_balance, flows}
 use Rattle.ccr_model.proofs.TaskLists.{among_left as front_has}
+use Rattle.ccr_model.proofs.WhoWasPut.{started_fired}
 use Rattle.ccr_gen.specs.Weights.{by_task}
 
 -- a firing whose task ended before it posted all
@@ -45,14 +46,6 @@ record Cheated (w : Parts) (h : List Event) : Type 0 where
   among : Among firing (firings h)
   over : has_task (ended h) firing.task ≡ true
   owes : by_task (posts h) firing.task < length (planned w firing.spot)
-
-named_so : (fs : List Firing) (t : TaskId) (f : Firing) → find (λ (g : Firing). same_task g.task t) fs ≡ Some f → f.task ≡ t
-named_so [] t f is = absurd cc
-named_so (g ∷ fs) t f is = by (same_task g.task t) refl is (named_so fs t f)
-  where
-    by : (b : Bool) → same_task g.task t ≡ b → (if b then Some g else find (λ (g : Firing). same_task g.task t) fs) ≡ Some f → (find (λ (g : Firing). same_task g.task t) fs ≡ Some f → f.task ≡ t) → f.task ≡ t
-    by true e is more = let same : f ≡ g = cc in ap (λ (x : Firing). x.task) same ∙ same_task-is g.task t e
-    by false e is more = more is
 
 -- an ended task posts no more
 post_keeps : (w : Parts) (h : List Event) (m : Msg) (name : MsgId) (t : TaskId) → m.id ≡ name → refusal_of_post w h m name ≡ None → has_task (ended h) t ≡ true → by_task (posts h ++ m ∷ []) t ≡ by_task (posts h) t
@@ -89,10 +82,10 @@ shed_cheats w steady h t legal allowed =
     let may : may_shed w h t ≡ true = (refused_not (may_end w h t ends.Shed) _ None a.1).0 in
     let owed = (both (has_post_left w h t) _ may).0 in
     let runs = RunningFacts-running h t a.0 in
-    let firing = ended_fired w h legal t runs.started_so in
+    let firing = started_fired w h legal t runs.started_so in
     let long = planned_length w steady h t firing.0 firing.1 in
     let less : posts_of_task h t < length (play_of w h t).posts = grind (arith, nat_tests, owed) in
-    let mine = named_so (firings h) t firing.0 firing.1 in
+    let mine = same_task-is firing.0.task t (find_passes (λ (g : Firing). same_task g.task t) (firings h) firing.0 firing.1) in
     let owes : by_task (posts h) t < length (planned w firing.0.spot) = omega (arith, less, long) in
     record {
       firing = firing.0;

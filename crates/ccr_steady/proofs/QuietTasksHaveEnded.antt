@@ -1,9 +1,8 @@
 -- In a quiet history of a steady wiring every task that fired has ended.
-use Rattle.std.proofs.Common.{◌≡◌, ℕ, ◌+◌, ◌<◌, Bool, true, false, List, [], ◌∷◌, ◌++◌, length, find, Option, Some, None, refl, sym, ◌∙◌, subst, arith}
-use Rattle.std.specs.Prelude.{◌==◌, ◌&&◌, ◌||◌, if◌then◌else◌, IfSome}
-use Rattle.std.specs.List.{list_any, list_all}
+use Rattle.std.proofs.Common.{◌≡◌, ℕ, ◌+◌, ◌<◌, Bool, true, false, List, [], ◌∷◌, length, find, Option, Some, None, refl, sym, ◌∙◌, subst, arith}
+use Rattle.std.specs.Prelude.{◌==◌, ◌&&◌, if◌then◌else◌, IfSome}
+use Rattle.std.specs.List.{list_all}
 use Rattle.std.specs.Option.{option_map_or}
-use Rattle.std.proofs.lemmas.Grind.{common_steps}
 use Rattle.std.proofs.lemmas.Bool.Decides.{nat_tests}
 use Rattle.ccr_base.specs.declared.names.TaskId.{TaskId}
 use Rattle.ccr_base.specs.declared.names.Spot.{Spot}
@@ -14,11 +13,9 @@ use Rattle.ccr_wiring.specs.Wirings.{Placement, placement, branch_of}
 use Rattle.ccr_wiring.specs.Valid.{IsSound}
 use Rattle.ccr_model.specs.declared.history.Event.{Event}
 use Rattle.ccr_model.specs.declared.history.Event.TheVariants as events
-use Rattle.ccr_model.specs.declared.history.EndHow.{EndHow}
 use Rattle.ccr_model.specs.declared.history.TaskState.{TaskState}
 use Rattle.ccr_model.specs.declared.history.TaskState.TheVariants as states
-use Rattle.ccr_model.specs.Firings.{Firing, firings, firing_named, fired, ended, ended_by, last_segments}
-use Rattle.ccr_model.specs.Sites.{root_of}
+use Rattle.ccr_model.specs.Firings.{Firing, firings, firing_named, fired, ended, last_segments}
 use Rattle.ccr_model.specs.Tasks.{waiting, queued, admitted, is_concurrent}
 use Rattle.ccr_model.specs.TaskData.{placement_of}
 use Rattle.ccr_model.specs.Rules.{may_put, may_admit, is_concurrent_task}
@@ -32,12 +29,12 @@ use Rattle.ccr_base.proofs.Booleans.{no_both}
 use Rattle.ccr_model.proofs.Members.{found_among}
 use Rattle.ccr_base.proofs.Options.{no_head, none_map}
 use Rattle.ccr_model.proofs.PlacementDomains.{placement-within}
-use Rattle.ccr_base.proofs.SameNames.{same_task-is, same_task-self}
+use Rattle.ccr_base.proofs.SameNames.{same_task-self}
 use Rattle.ccr_laws.specs.OneFate.{IsIn, Waits, IsQueued}
 use Rattle.ccr_model.proofs.AllowedFirings.{WaitingFacts-waiting}
-use Rattle.ccr_model.proofs.Roots.{root_own, AdmittedFacts-admitted}
+use Rattle.ccr_model.proofs.Roots.{root_own, AdmittedFacts-admitted, over_so}
 use Rattle.ccr_model.proofs.FiringPlacements.{firing_with_placement}
-use Rattle.ccr_laws.proofs.States.{is_in}
+use Rattle.ccr_laws.proofs.States.{is_in, has_ended}
 use Rattle.ccr_model.proofs.WhoWasPut.{QueuedFacts-queued, placement_by}
 use Rattle.ccr_steady.specs.Flow.{IsSteady}
 use Rattle.ccr_steady.proofs.Calm.{none_cut, none_dropped, are_over, at_branches}
@@ -53,14 +50,6 @@ quiet_none w sound h legal quiet =
     by : (o : Option Event) → IfSome o (IsAllowed w h) → o ≡ None
     by None some = refl
     by (Some e) some = absurd (quiet e some)
-
-ended_has : (past more : List Event) (t : TaskId) (how : EndHow) → has_task (ended (past ++ events.End t how ∷ more)) t ≡ true
-ended_has [] more t how = grind (arith, common_steps, same_task-self t)
-ended_has (e ∷ past) more t how = later (ended_by e) (ended_has past more t how)
-  where
-    later : (front : List TaskId) → has_task (ended (past ++ events.End t how ∷ more)) t ≡ true → has_task (front ++ ended (past ++ events.End t how ∷ more)) t ≡ true
-    later [] is = is
-    later (x ∷ front) is = grind (arith, later front is)
 
 none_queued : (w : Parts) → IsSound w → (h : List Event) → NoneFirst w (length w.posters) h → (t : TaskId) → IsQueued w h t → ⊥
 none_queued w sound h none t is =
@@ -89,18 +78,7 @@ settled w sound steady h legal none t f found waits =
     by states.Queued is = absurd (none_queued w sound h none t is)
     by states.Dropped is = let there : has_task [] t ≡ true = subst (λ (ts : List TaskId). has_task ts t ≡ true) (none_dropped w steady h legal) is in absurd cc
     by states.Running is = let there : has_task [] t ≡ true = subst (λ (ts : List TaskId). has_task ts t ≡ true) none.run is in absurd cc
-    by (states.Ended how) is = subst (λ (g : List Event). has_task (ended g) t ≡ true) (sym is.stands.whole) (ended_has is.past is.stands.more t how)
-
-over_by : (h : List Event) (t : TaskId) (ts : List TaskId) → root_of h t ≡ t → has_task ts t ≡ true → list_any (λ (u : TaskId). same_task (root_of h u) t) ts ≡ true
-over_by h t [] root is = absurd cc
-over_by h t (x ∷ ts) root is = by (same_task t x) refl is (over_by h t ts root)
-  where
-    by : (b : Bool) → same_task t x ≡ b → b || has_task ts t ≡ true → (has_task ts t ≡ true → list_any (λ (u : TaskId). same_task (root_of h u) t) ts ≡ true) → list_any (λ (u : TaskId). same_task (root_of h u) t) (x ∷ ts) ≡ true
-    by true e is more =
-        let same : t ≡ x = same_task-is t x e in
-        let here : same_task (root_of h x) t ≡ true = subst (λ (u : TaskId). same_task (root_of h u) t ≡ true) same (rw root (same_task-self t)) in
-        rw here refl
-    by false e is more = let rest = more is in grind (arith, rest)
+    by (states.Ended how) is = has_ended h t how is
 
 -- no Interleave has an admitted root that isn't over
 none_admitted : (w : Parts) → IsSound w → IsSteady w → (h : List Event) → IsLegal w h → NoneFirst w (length w.posters) h → (i : ℕ) (t : TaskId) → has_task (admitted w h i) t ≡ true → ⊥
@@ -111,7 +89,7 @@ none_admitted w sound steady h legal none i t is =
     let spot = at_branches w steady h legal firing.0 (found_among (λ (g : Firing). same_task g.task t) (firings h) firing.0 firing.1) in
     let root = root_own h t firing.0 spot.0 firing.1 spot.2 in
     let last : has_task (last_segments h) t ≡ true = subst (λ (ts : List TaskId). has_task ts t ≡ true) (sym (are_over w steady h legal)) done in
-    no_both (over_by h t (last_segments h) root last) facts.lasts
+    no_both (over_so h t root last) facts.lasts
 
 none_waits : (w : Parts) → IsSound w → IsSteady w → (h : List Event) → IsLegal w h → NoneFirst w (length w.posters) h → (t : TaskId) → Waits w h t → ⊥
 none_waits w sound steady h legal none t waits = by (waiting w h waits.interleave) refl waits.among

@@ -6,7 +6,8 @@ ghost use Rattle.ccr_base.specs.Bounds.{most_script_posts};
 ghost use Rattle.ccr_wiring.specs.Limits.{posts_in_all};
 ghost use Rattle.ccr_wiring.specs.Placements.{placement_seen};
 ghost use Rattle.ccr_wiring.specs.Wirings.{placements};
-ghost use Rattle.ccr_steady.specs.Flow.{at_port, each, sends, weigh, lines, scripts, slots_of, unsteady};
+ghost use Rattle.ccr_gen.specs.Lines.{lines};
+ghost use Rattle.ccr_steady.specs.Flow.{at_port, each, sends, weigh, scripts, slots_of, unsteady};
 ghost use Rattle.ccr_steady.specs.Counting.{count_limit, most_firings, is_short, AreStuck, IsReady, IsCounting, HasFlow};
 ghost use Rattle.ccr_steady.specs.Agreement.{IsDear};
 

@@ -3,9 +3,9 @@ use Rattle.std.proofs.Common.{◌≡◌, ◌∙◌, ℕ, ◌-◌, ◌<◌, ◌�
 use Rattle.std.specs.Prelude.{◌==◌, option_map, slice_index}
 use Rattle.std.specs.Option.{option_map_or}
 use Rattle.std.proofs.lemmas.List.{length-map}
+use Rattle.std.proofs.lemmas.List.Elements.{filter_agree}
 use Rattle.ccr_base.specs.declared.names.TaskId.{TaskId}
 use Rattle.ccr_base.specs.declared.names.Spot.{Spot}
-use Rattle.ccr_base.proofs.Filters.{filter_same}
 use Rattle.ccr_wiring.specs.declared.parts.Parts.{Parts}
 use Rattle.ccr_wiring.specs.Wirings.{spots}
 use Rattle.ccr_wiring.specs.Valid.{IsValid}
@@ -95,7 +95,7 @@ counted_told w valid h legal b keeps t so counts posted_is held_len held_is fire
   posted = λ k low. ap (λ (ns : List ℕ). slice_index ns k) posted_is ∙ (number_read t.posted k ∙ so.posted k low);
   held = λ k low. held_is k low ∙ ap length (keeps.ports.ports k low);
   fired = fired_is ∙ fired_told w valid h b t so;
-  put = λ k low. ap (λ (ns : List ℕ). slice_index ns k) put_is ∙ (number_read t.put k ∙ (so.put k low ∙ ap length (filter_same (is_on b k) (is_for_queue w h k) (put h) (on_queue w h b legal keeps.tasks k))));
-  dropped = λ k low. ap (λ (ns : List ℕ). slice_index ns k) dropped_is ∙ (number_read t.dropped k ∙ (so.dropped k low ∙ ap length (filter_same (is_on b k) (is_for_queue w h k) (dropped h) (on_queue w h b legal keeps.tasks k))));
+  put = λ k low. ap (λ (ns : List ℕ). slice_index ns k) put_is ∙ (number_read t.put k ∙ (so.put k low ∙ ap length (filter_agree (is_on b k) (is_for_queue w h k) (on_queue w h b legal keeps.tasks k) (put h))));
+  dropped = λ k low. ap (λ (ns : List ℕ). slice_index ns k) dropped_is ∙ (number_read t.dropped k ∙ (so.dropped k low ∙ ap length (filter_agree (is_on b k) (is_for_queue w h k) (on_queue w h b legal keeps.tasks k) (dropped h))));
   totals = totals_is ∙ totals_told w valid h legal b t so;
 }

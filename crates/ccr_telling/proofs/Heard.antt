@@ -1,16 +1,16 @@
 -- Numbers that are told event by event, each with the tables that stood before it.
-use Rattle.std.proofs.Common.{◌≡◌, ◌∙◌, ℕ, ◌+◌, ◌≤◌, true, List, [], ◌∷◌, ◌++◌, length, filter, take, Some, refl, sym, ap, subst, arith, length-append}
-use Rattle.std.specs.List.{slice_get}
+use Rattle.std.proofs.Common.{◌≡◌, ◌∙◌, ℕ, ◌+◌, ◌≤◌, true, List, [], ◌∷◌, ◌++◌, length, filter, take, refl, sym, ap, subst, arith, length-append}
+use Rattle.std.proofs.lemmas.List.Elements.{filter_agree}
 use Rattle.ccr_base.specs.declared.names.TaskId.{TaskId}
 use Rattle.ccr_base.specs.Names.{has_task}
-use Rattle.ccr_base.proofs.Filters.{filter_same}
+use Rattle.ccr_base.proofs.Options.{get-last}
+use Rattle.ccr_base.proofs.Lists.{take_front}
 use Rattle.ccr_wiring.specs.declared.parts.Parts.{Parts}
 use Rattle.ccr_wiring.specs.Valid.{IsValid}
 use Rattle.ccr_model.specs.declared.history.Event.{Event}
 use Rattle.ccr_model.specs.Firings.{put, dropped}
 use Rattle.ccr_model.specs.Legal.{IsLegal}
-use Rattle.ccr_model.proofs.FiredTasks.{IsFired, placement_stays}
-use Rattle.ccr_model.specs.Tasks.{is_for_queue}
+use Rattle.ccr_model.proofs.FiredTasks.{IsFired, for_queue_stays}
 use Rattle.ccr_model.proofs.LegalParts.{Parted, Parted-legal}
 use Rattle.ccr_model.proofs.WhoWasPut.{ArePlaced, ArePlaced-legal, put_fired}
 use Rattle.ccr_model.proofs.TasksLeft.{filter_on}
@@ -46,19 +46,16 @@ tallies_by ports indices queues a b h t puts drops so = record {
 -- numbers by some tables of the history
 pub counting_of : (w : Parts) (h : List Event) (b : Books) (t : Tallies) → IsLegal w h → Keeps w h b → AreTallies (length w.ports) all_indices (length w.queues) b h t → AreFew (length h) t → IsCounting w h t
 counting_of w h b t legal keeps so few = record {
-  counted = λ other others. tallies_by (length w.ports) all_indices (length w.queues) b other h t (λ q. filter_same (is_on b q) (is_on other q) (put h) (same other others q)) (λ q. filter_same (is_on b q) (is_on other q) (dropped h) (same other others q)) so;
+  counted = λ other others. tallies_by (length w.ports) all_indices (length w.queues) b other h t (λ q. filter_agree (is_on b q) (is_on other q) (same other others q) (put h)) (λ q. filter_agree (is_on b q) (is_on other q) (same other others q) (dropped h)) so;
   few = few;
 }
   where
     same : (other : Books) → Keeps w h other → (q : ℕ) (u : TaskId) → is_on b q u ≡ is_on other q u
     same other others q u = on_queue w h b legal keeps.tasks q u ∙ sym (on_queue w h other legal others.tasks q u)
 
-for_queue_stays : (w : Parts) (h : List Event) (e : Event) (q : ℕ) (u : TaskId) → IsFired h u → is_for_queue w (h ++ e ∷ []) q u ≡ is_for_queue w h q u
-for_queue_stays w h e q u fired = rw (placement_stays w h (e ∷ []) u fired) refl
-
 -- the tables before an event and those behind it tell one queue of a task that fired before
 one_queue : (w : Parts) (h : List Event) (e : Event) (a b : Books) → IsLegal w h → IsLegal w (h ++ e ∷ []) → KeepsTasks w h a → KeepsTasks w (h ++ e ∷ []) b → (q : ℕ) (u : TaskId) → IsFired h u → is_on a q u ≡ is_on b q u
-one_queue w h e a b legal more was is q u fired = on_queue w h a legal was q u ∙ (sym (for_queue_stays w h e q u fired) ∙ sym (on_queue w (h ++ e ∷ []) b more is q u))
+one_queue w h e a b legal more was is q u fired = on_queue w h a legal was q u ∙ (sym (for_queue_stays w h (e ∷ []) q u fired) ∙ sym (on_queue w (h ++ e ∷ []) b more is q u))
 
 -- one event more
 pub counting_next : (w : Parts) (h : List Event) (e : Event) (b : Books) (old new : Tallies) → Keeps w h b → IsLegal w (h ++ e ∷ []) → new ≡ after_event b e old → IsCounting w h old → IsCounting w (h ++ e ∷ []) new
@@ -83,17 +80,12 @@ counting_next w h e b old new keeps legal is counting = record {
     same other others q u fired = one_queue w h e b other parts.legal_before legal keeps.tasks others.tasks q u fired
 
 take_before : (h : List Event) (e : Event) → take (length h) (h ++ e ∷ []) ≡ h
-take_before [] e = refl
-take_before (x ∷ h) e = ap (λ rest. x ∷ rest) (take_before h e)
-
-at_end : (h : List Event) (e : Event) → slice_get (h ++ e ∷ []) (length h) ≡ Some e
-at_end [] e = refl
-at_end (x ∷ h) e = at_end h e
+take_before h e = take_front h (e ∷ []) (length h) refl
 
 -- the event fits the numbers of a short history
 pub counting_fits : (w : Parts) (h : List Event) (e : Event) (b : Books) (t : Tallies) → IsValid w → Keeps w h b → IsLegal w (h ++ e ∷ []) → length (h ++ e ∷ []) ≤ 120000 → IsCounting w h t → EventFits e t
 counting_fits w h e b t valid keeps legal short counting =
     let all = h ++ e ∷ [] in
     let longer : length all ≡ length h + 1 = length-append h (e ∷ []) in
-    event_fits (length w.ports) all_indices (length w.queues) b all (length h) e t (at_end h e) (omega (arith, longer, short)) (omega (arith, short)) (few_taken w valid all legal) (few_cuts w all legal)
+    event_fits (length w.ports) all_indices (length w.queues) b all (length h) e t (get-last h all (length h) e refl refl) (omega (arith, longer, short)) (omega (arith, short)) (few_taken w valid all legal) (few_cuts w all legal)
     (subst (λ g. AreTallies (length w.ports) all_indices (length w.queues) b g t) (sym (take_before h e)) (counting.counted b keeps)) counting.few

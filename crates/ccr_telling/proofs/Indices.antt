@@ -1,5 +1,5 @@
 -- Each spot has an index of its own.
-use Rattle.std.proofs.Common.{◌≡◌, ℕ, suc, ◌+◌, ◌*◌, ◌<◌, Bool, true, false, ◌&&◌, Option, Some, None, refl, sym, ◌∙◌, subst, arith}
+use Rattle.std.proofs.Common.{◌≡◌, ℕ, suc, ◌+◌, ◌*◌, ◌<◌, Bool, true, false, ◌&&◌, Option, Some, None, refl, sym, ◌∙◌, arith}
 use Rattle.std.specs.Prelude.{◌==◌, nat_lt, if◌then◌else◌}
 use Rattle.std.specs.Option.{option_map_or}
 use Rattle.std.proofs.lemmas.Bool.Decides.{nat_tests}
@@ -7,17 +7,9 @@ use Rattle.ccr_base.specs.declared.names.Spot.{Spot}
 use Rattle.ccr_base.specs.declared.names.Spot.TheVariants.{Branch, Site}
 use Rattle.ccr_base.specs.Names.{same_spot}
 use Rattle.ccr_wiring.specs.Wirings.{branch_of, segment_of}
-use Rattle.ccr_base.proofs.Booleans.{eq-self, no_both, refuted, same_number}
+use Rattle.ccr_base.proofs.Booleans.{refuted}
+use Rattle.ccr_base.proofs.TwoDigits.{same_digits}
 use Rattle.ccr_telling.specs.Tallies.{index_of}
-
--- a number of a branch and one of its indices
-one_index : (n k b l : ℕ) → k < 17 → l < 17 → (n * 17 + k == b * 17 + l) ≡ (n == b) && (k == l)
-one_index n k b l low less = of_tests (n == b) (k == l) refl refl
-  where
-    of_tests : (c d : Bool) → (n == b) ≡ c → (k == l) ≡ d → (n * 17 + k == b * 17 + l) ≡ c && d
-    of_tests true true same alike = rw (same_number n b same, same_number k l alike) (eq-self (b * 17 + l))
-    of_tests false d other alike = refuted (n * 17 + k == b * 17 + l) (λ is. (let one : n ≡ b = omega (arith, low, less, same_number (n * 17 + k) (b * 17 + l) is) in no_both (subst (λ m. (n == m) ≡ true) one (eq-self n)) other))
-    of_tests true false same other = refuted (n * 17 + k == b * 17 + l) (λ is. (let one : k ≡ l = omega (arith, same_number n b same, same_number (n * 17 + k) (b * 17 + l) is) in no_both (subst (λ m. (k == m) ≡ true) one (eq-self k)) other))
 
 -- the index of a spot that has one
 pub placed_at : (s : Spot) (p : ℕ) → index_of s ≡ Some p → (p ≡ branch_of s * 17 + segment_of s) × (segment_of s < 17)
@@ -44,7 +36,7 @@ own_index s q p at = by (index_of s) refl
     by : (o : Option ℕ) → index_of s ≡ o → option_map_or (λ r. r == p) o false ≡ same_spot s q
     by (Some r) here =
         let its = placed_at s r here in
-        rw (its.0, there.0) (one_index (branch_of s) (segment_of s) (branch_of q) (segment_of q) its.1 there.1 ∙ sym (spots_apart s q))
+        rw (its.0, there.0) (same_digits 17 (branch_of s) (segment_of s) (branch_of q) (segment_of q) its.1 there.1 ∙ sym (spots_apart s q))
     by None none = sym (refuted (same_spot s q) (λ is. absurd (other s q is none at)))
       where
         other : (s q : Spot) → same_spot s q ≡ true → index_of s ≡ None → index_of q ≡ Some p → ⊥

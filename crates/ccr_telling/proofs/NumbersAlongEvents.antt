@@ -10,19 +10,16 @@ use Rattle.ccr_ledger.specs.Books.{Books}
 use Rattle.ccr_telling.specs.Tallies.{AreFew, AreTallies, EventFits, Tallies, after_event, no_tallies}
 use Rattle.ccr_telling.proofs.Counting.{tallies-event, tallies-none}
 use Rattle.ccr_telling.proofs.NumbersGrowByOne.{few-event, few-none, event_fits}
+use Rattle.ccr_base.proofs.Lists.{take_none}
 
 -- the numbers of the first events
 pub record IsAlong (ports indices queues : ℕ) (b : Books) (es : List Event) (i : ℕ) (t : Tallies) : Type 0 where
   pub counted : AreTallies ports indices queues b (take i es) t
   pub few : AreFew i t
 
-take_none : (es : List Event) → [] ≡ take 0 es
-take_none [] = refl
-take_none (e ∷ es) = refl
-
 pub along_none : (ports indices queues : ℕ) (b : Books) (es : List Event) (t : Tallies) → t ≡ no_tallies ports indices queues → IsAlong ports indices queues b es 0 t
 along_none ports indices queues b es t is = rw is (record {
-  counted = subst (λ h. AreTallies ports indices queues b h (no_tallies ports indices queues)) (take_none es) (tallies-none ports indices queues b);
+  counted = subst (λ h. AreTallies ports indices queues b h (no_tallies ports indices queues)) (sym (take_none es)) (tallies-none ports indices queues b);
   few = few-none ports indices queues;
 })
 

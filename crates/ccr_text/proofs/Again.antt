@@ -9,15 +9,16 @@ use Rattle.ccr_text.specs.Lines.{split_text, numbered_line, numbered, lines_of}
 use Rattle.ccr_text.specs.Spelling.{joined, line_text, text_of, spelled_lines, AreWords, AreLines}
 use Rattle.std.proofs.lemmas.Bool.{and_parts as both}
 
-abbrev not_feed : ℕ → Bool
+abbrev pub not_feed : ℕ → Bool
 not_feed b = not (b == 10)
 
-split_line : (line rest : List ℕ) → list_all not_feed line ≡ true → split_text (line ++ 10 ∷ rest) ≡ line ∷ split_text rest
-split_line [] rest none = refl
-split_line (b ∷ line) rest none =
+-- a line without LF is split off
+pub split_off : (line rest : List ℕ) → list_all not_feed line ≡ true → split_text (line ++ 10 ∷ rest) ≡ line ∷ split_text rest
+split_off [] rest none = refl
+split_off (b ∷ line) rest none =
     let parts = both (not_feed b) (list_all not_feed line) none in
     let other : (b == 10) ≡ false = grind (arith, nat_tests, parts.0) in
-    rw (other, split_line line rest parts.1) refl
+    rw (other, split_off line rest parts.1) refl
 
 graphic_not_feed : (b : ℕ) → is_graphic b ≡ true → not_feed b ≡ true
 graphic_not_feed b e = grind (arith, nat_tests)
@@ -68,7 +69,7 @@ lines_again number [] are = refl
 lines_again number (words ∷ lines) are =
     let regrouped : text_of (words ∷ lines) ≡ joined words ++ 10 ∷ text_of lines = flat_map-cons line_text words lines ∙ append_assoc (joined words) (10 ∷ []) (text_of lines) in
     let first : numbered_line number (joined words) ≡ record { number = number; words = words; clean = true } = rw (joined_words words are.0, joined_clean words are.0) refl in
-    ap (λ (t : List ℕ). numbered number (split_text t)) regrouped ∙ rw (split_line (joined words) (text_of lines) (joined_feeds words are.0), first, lines_again (number + 1) lines are.1) refl
+    ap (λ (t : List ℕ). numbered number (split_text t)) regrouped ∙ rw (split_off (joined words) (text_of lines) (joined_feeds words are.0), first, lines_again (number + 1) lines are.1) refl
 
 pub text_again : (lines : List (List (List ℕ))) → AreLines lines → lines_of (text_of lines) ≡ spelled_lines 1 lines
 text_again lines are = lines_again 1 lines are

@@ -42,7 +42,7 @@ zero_decimal (suc n) small = by (decimal (suc n)) (first_decimal (suc n) (omega 
     by (b ∷ c ∷ digits) above = grind (arith, nat_tests, above)
 
 -- a number of n < 2 ^ 64
-number_is : (word : List ℕ) (n : ℕ) → number_of word ≡ Some n → (list_all is_ascii_digit word ≡ true) × (value_after 0 word ≡ n) × (n < 2 ^ 64)
+pub number_is : (word : List ℕ) (n : ℕ) → number_of word ≡ Some n → (list_all is_ascii_digit word ≡ true) × (value_after 0 word ≡ n) × (n < 2 ^ 64)
 number_is word n e = by (is_digits word && nat_lt (value_after 0 word) (2 ^ 64)) refl e
   where
     by : (t : Bool) → (is_digits word && nat_lt (value_after 0 word) (2 ^ 64)) ≡ t → (if t then Some (value_after 0 word) else None) ≡ Some n → (list_all is_ascii_digit word ≡ true) × (value_after 0 word ≡ n) × (n < 2 ^ 64)

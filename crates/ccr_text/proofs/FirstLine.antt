@@ -21,7 +21,7 @@ split_by : (b : ℕ) (bytes : List ℕ) (t : Bool) → (b == 10) ≡ t → onto_
 split_by b bytes true e rest = rw e refl
 split_by b bytes false e rest = rw e rest
 
-split_next : (b : ℕ) (bytes : List ℕ) → split_text (b ∷ bytes) ≡ first_line (b ∷ bytes) ∷ split_text (behind_line (b ∷ bytes))
+pub split_next : (b : ℕ) (bytes : List ℕ) → split_text (b ∷ bytes) ≡ first_line (b ∷ bytes) ∷ split_text (behind_line (b ∷ bytes))
 split_next b [] = split_by b [] (b == 10) refl refl
 split_next b (c ∷ bytes) = split_by b (c ∷ bytes) (b == 10) refl (rw (split_next c bytes) refl)
 

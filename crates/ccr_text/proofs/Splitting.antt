@@ -1,9 +1,11 @@
 -- Where the first line ends.
-use Rattle.std.proofs.Common.{◌≡◌, ◌≢◌, ℕ, zero, suc, ◌+◌, ◌<◌, ◌≤◌, List, [], ◌∷◌, ◌++◌, get_or, take, drop, length, refl, ap, arith}
+use Rattle.std.proofs.Common.{◌≡◌, ◌≢◌, ℕ, zero, suc, ◌+◌, ◌<◌, ◌≤◌, List, [], ◌∷◌, ◌++◌, get_or, take, drop, length, refl, ap, arith, ◌∙◌, Some}
 use Rattle.std.proofs.lemmas.Bool.Decides.{nat_tests}
 use Rattle.std.specs.Prelude.{true, false}
+use Rattle.std.proofs.lemmas.Option.{slice_get-get_or}
 use Rattle.ccr_text.specs.Lines.{split_text, has_feed}
 use Rattle.ccr_text.specs.Words.{is_graphic, pieces}
+use Rattle.ccr_base.proofs.Options.{parted}
 
 split_at_suc : (text : List ℕ) (i : ℕ) → ((k : ℕ) → k < i → get_or text k 0 ≢ 10) → i < length text → get_or text i 0 ≡ 10 → split_text text ≡ take i text ∷ split_text (drop (suc i) text)
 split_at_suc [] i none below here = absurd (omega arith)
@@ -45,14 +47,9 @@ no_feeds (b ∷ bytes) none =
     let rest : has_feed bytes ≡ false = no_feeds bytes (λ k h. none (suc k) (omega arith)) in
     grind (arith, nat_tests, rest, other)
 
-parts_at_suc : (text : List ℕ) (i : ℕ) → i < length text → get_or text i 0 ≡ 10 → text ≡ take i text ++ 10 ∷ drop (suc i) text
-parts_at_suc [] i below here = absurd (omega arith)
-parts_at_suc (b ∷ bytes) zero below here = rw here refl
-parts_at_suc (b ∷ bytes) (suc i) below here = ap (λ (t : List ℕ). b ∷ t) (parts_at_suc bytes i (omega arith) here)
-
 -- the text is what stands before the LF at i, the LF and what follows
 pub parts_at : (text : List ℕ) (i : ℕ) → i < length text → get_or text i 0 ≡ 10 → text ≡ take i text ++ 10 ∷ drop (i + 1) text
-parts_at text i below here = let e : i + 1 ≡ suc i = omega arith in rw e (parts_at_suc text i below here)
+parts_at text i below here = parted text i 10 (slice_get-get_or text i 0 below ∙ ap Some here)
 
 pieces_at_suc : (line : List ℕ) (i : ℕ) → ((k : ℕ) → k < i → is_graphic (get_or line k 0) ≡ true) → i < length line → is_graphic (get_or line i 0) ≡ false → pieces line ≡ take i line ∷ pieces (drop (suc i) line)
 pieces_at_suc [] i graphic below here = absurd (omega arith)

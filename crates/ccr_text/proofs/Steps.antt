@@ -1,5 +1,5 @@
 -- What a step of reading tells where it refuses nothing.
-use Rattle.std.proofs.Common.{◌≡◌, ℕ, ◌<◌, Bool, true, false, List, [], ◌∷◌, Option, Some, None, Ok, refl, ap, arith}
+use Rattle.std.proofs.Common.{◌≡◌, ℕ, ◌<◌, Bool, true, false, List, [], ◌∷◌, Option, Some, None, Ok, refl, ap, arith, Result}
 use Rattle.std.specs.Prelude.{nat_lt}
 use Rattle.std.proofs.lemmas.Bool.Decides.{nat_tests}
 use Rattle.ccr_text.specs.Fields.{Words, unless, or_code, limited, word, no_more}
@@ -22,3 +22,7 @@ no_more_ok (w ∷ words) y e = absurd cc
 
 pub limit_ok : (limit count : ℕ) (y : Unit {0}) → limited limit count ≡ Ok y → count < limit
 limit_ok limit count y e = let test = unless_ok (nat_lt count limit) 10 y e in grind (arith, nat_tests, test)
+
+-- where two results that refuse nothing are one, so are their values
+pub ok_is : {A E : Type 0} (x y : A) → ◌≡◌ {A = Result A E} (Ok x) (Ok y) → x ≡ y
+ok_is x y e = cc

@@ -6,7 +6,6 @@ use Rattle.std.specs.Str.{bytes_eq}
 use Rattle.std.proofs.lemmas.Bool.Decides.{nat_tests}
 use Rattle.std.proofs.lemmas.List.{length-map}
 use Rattle.std.proofs.lemmas.List.Concat.{flat_map-cons}
-use Rattle.std.proofs.lemmas.List.Folds.{list_any-append}
 use Rattle.std.proofs.lemmas.Slice.Eq.{bytes_eq-Decides}
 use Rattle.ccr_wiring.specs.declared.parts.ArbiterPart.{ArbiterPart}
 use Rattle.ccr_wiring.specs.declared.parts.BranchPart.{BranchPart}
@@ -21,19 +20,13 @@ use Rattle.ccr_wiring.proofs.Validity.{no_codes}
 use Rattle.ccr_trace.specs.Words.{branch_names, branch_names_of, cause_names}
 use Rattle.std.proofs.lemmas.Bool.{and_parts as both, or_parts as neither}
 use Rattle.ccr_base.proofs.Booleans.{not_refuted}
-use Rattle.ccr_base.proofs.Lists.{none_of_both}
-
-none_left : (test : List ℕ → Bool) (xs ys : List (List ℕ)) → list_any test (xs ++ ys) ≡ false → list_any test xs ≡ false
-none_left test xs ys e = (neither (list_any test xs) (list_any test ys) (sym (list_any-append test xs ys) ∙ e)).0
-
-none_right : (test : List ℕ → Bool) (xs ys : List (List ℕ)) → list_any test (xs ++ ys) ≡ false → list_any test ys ≡ false
-none_right test xs ys e = (neither (list_any test xs) (list_any test ys) (sym (list_any-append test xs ys) ∙ e)).1
+use Rattle.ccr_base.proofs.Lists.{none_of_both, any_parts}
 
 lacks_left : (xs ys : List (List ℕ)) (name : List ℕ) → has_name (xs ++ ys) name ≡ false → has_name xs name ≡ false
-lacks_left xs ys name e = none_left (λ other. bytes_eq other name) xs ys e
+lacks_left xs ys name e = (any_parts (λ other. bytes_eq other name) xs ys e).0
 
 lacks_right : (xs ys : List (List ℕ)) (name : List ℕ) → has_name (xs ++ ys) name ≡ false → has_name ys name ≡ false
-lacks_right xs ys name e = none_right (λ other. bytes_eq other name) xs ys e
+lacks_right xs ys name e = (any_parts (λ other. bytes_eq other name) xs ys e).1
 
 lacks_both : (xs ys : List (List ℕ)) (name : List ℕ) → has_name xs name ≡ false → has_name ys name ≡ false → has_name (xs ++ ys) name ≡ false
 lacks_both xs ys name e f = none_of_both (λ other. bytes_eq other name) xs ys e f
@@ -117,9 +110,9 @@ none_passes test (arbiter ∷ arbiters) grouped e =
     let parts = neither (is_misgrouped arbiter) (list_any is_misgrouped arbiters) grouped in
     let front = named arbiter parts.0 in
     let whole : list_any test (arbiter_names arbiter ++ flat_map arbiter_names arbiters) ≡ false = ap (list_any test) (sym (flat_map-cons arbiter_names arbiter arbiters)) ∙ e in
-    let here : list_any test (front.0 ++ branch_names_of arbiter) ≡ false = ap (list_any test) (sym front.1) ∙ none_left test (arbiter_names arbiter) (flat_map arbiter_names arbiters) whole in
-    let later = none_passes test arbiters parts.1 (none_right test (arbiter_names arbiter) (flat_map arbiter_names arbiters) whole) in
-    ap (list_any test) (flat_map-cons branch_names_of arbiter arbiters) ∙ none_of_both test (branch_names_of arbiter) (flat_map branch_names_of arbiters) (none_right test front.0 (branch_names_of arbiter) here) later
+    let here : list_any test (front.0 ++ branch_names_of arbiter) ≡ false = ap (list_any test) (sym front.1) ∙ (any_parts test (arbiter_names arbiter) (flat_map arbiter_names arbiters) whole).0 in
+    let later = none_passes test arbiters parts.1 (any_parts test (arbiter_names arbiter) (flat_map arbiter_names arbiters) whole).1 in
+    ap (list_any test) (flat_map-cons branch_names_of arbiter arbiters) ∙ none_of_both test (branch_names_of arbiter) (flat_map branch_names_of arbiters) (any_parts test front.0 (branch_names_of arbiter) here).1 later
 
 apart : (arbiters : List ArbiterPart) → list_any is_misgrouped arbiters ≡ false → has_repeated (flat_map arbiter_names arbiters) ≡ false → has_repeated (flat_map branch_names_of arbiters) ≡ false
 apart [] grouped e = refl
@@ -164,13 +157,13 @@ are_formed parts valid =
     let a = flat_map arbiter_names parts.arbiters in
     let p = poster_names parts.posters in
     let test : List ℕ → Bool = λ name. not (is_name_of name) in
-    let five = none_left test (q ++ parts.ports ++ s ++ c ++ h ++ a) p (formed parts valid) in
-    let four = none_left test (q ++ parts.ports ++ s ++ c ++ h) a five in
-    let three = none_left test (q ++ parts.ports ++ s ++ c) h four in
-    let two = none_left test (q ++ parts.ports ++ s) c three in
-    let one = none_left test (q ++ parts.ports) s two in
+    let five = (any_parts test (q ++ parts.ports ++ s ++ c ++ h ++ a) p (formed parts valid)).0 in
+    let last = any_parts test (q ++ parts.ports ++ s ++ c ++ h) a five in
+    let three = (any_parts test (q ++ parts.ports ++ s ++ c) h last.0).0 in
+    let caused = any_parts test (q ++ parts.ports ++ s) c three in
+    let one = (any_parts test (q ++ parts.ports) s caused.0).0 in
     record {
-      ports = none_right test q parts.ports one;
-      causes = none_right test (q ++ parts.ports ++ s) c three;
-      branches = none_passes test parts.arbiters (no_codes parts valid).groups (none_right test (q ++ parts.ports ++ s ++ c ++ h) a five);
+      ports = (any_parts test q parts.ports one).1;
+      causes = caused.1;
+      branches = none_passes test parts.arbiters (no_codes parts valid).groups last.1;
     }

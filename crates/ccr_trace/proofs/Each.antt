@@ -1,8 +1,5 @@
 -- One word more: what is found so far, and what the words that are left say.
-use Rattle.std.proofs.Common.{◌≡◌, ℕ, ◌+◌, ◌<◌, Bool, true, false, List, [], ◌∷◌, ◌++◌, take, get_or, length, Option, Some, None, refl, ap, ◌∙◌, subst, append_assoc, append-nil, arith}
-use Rattle.std.specs.List.{All}
-use Rattle.std.proofs.lemmas.List.{take_more}
-use Rattle.std.proofs.lemmas.List.Elements.{All-push}
+use Rattle.std.proofs.Common.{◌≡◌, ℕ, ◌+◌, ◌<◌, Bool, true, false, List, [], ◌∷◌, ◌++◌, length, Option, Some, None, refl, ap, ◌∙◌, subst, append_assoc, append-nil, arith}
 use Rattle.std.specs.Prelude.{codes}
 use Rattle.std.specs.Option.{option_map}
 use Rattle.std.specs.Str.{bytes_eq}
@@ -13,10 +10,6 @@ use Rattle.ccr_trace.specs.Fields.{◌>>=◌, each, message_of}
 use Rattle.ccr_trace.specs.Forms.{field, cuts, fired}
 use Rattle.ccr_trace.proofs.ReadTellsSteps.{field_some}
 use Rattle.ccr_text.specs.Fields.{Words}
-
--- what holds of those so far and of the next
-pub All-more : {X : Type 0} (P : X → Type 0) (xs : List X) (i : ℕ) (d : X) → i < length xs → All P (take i xs) → P (get_or xs i d) → All P (take (i + 1) xs)
-All-more P xs i d below all here = rw (take_more xs i d below) (All-push P (take i xs) (get_or xs i d) all here)
 
 -- what is found so far before the rest
 abbrev pub behind_found : {A : Type 0} → List A → Option (List A) → Option (List A)

@@ -8,9 +8,9 @@ use Rattle.ccr_text.specs.Exact.{number_first}
 use Rattle.ccr_trace.specs.Fields.{◌>>=◌, each, where_short, where_few, values_in, exact_number, short_number, task_in, script_in, task_message_in}
 use Rattle.ccr_trace.specs.Forms.{field}
 use Rattle.ccr_text.specs.Fields.{Words}
+use Rattle.ccr_text.proofs.Parts.{parts_some}
 use Rattle.ccr_trace.proofs.ReadTellsSteps.{field_some}
 use Rattle.ccr_trace.specs.Pieces.{pieces}
-use Rattle.ccr_trace.proofs.Splitting.{pieces_some}
 use Rattle.ccr_trace.proofs.Each.{behind_found, each_more}
 use Rattle.ccr_trace.proofs.Valued.{length-each, one_too_many, no_number, all_read}
 use Rattle.ccr_base.specs.Values.{value_of_numbers}
@@ -196,7 +196,7 @@ pub single_more : (word : List ℕ) (words rest : Words) (n : ℕ) → words ≡
 single_more word words rest n is e some = ap one_of (sym is) ∙ one_number words rest n e ∙ rw some refl
 
 pub single_fails : (word : List ℕ) (words : Words) → words ≡ pieces 44 word → field exact_number words ≡ None → values_in 1 word ≡ None
-single_fails word words is e = ap one_of (sym is) ∙ no_number_first words (ap (λ (ps : Words). length ps == 0) is ∙ pieces_some 44 word) e
+single_fails word words is e = ap one_of (sym is) ∙ no_number_first words (ap (λ (ps : Words). length ps == 0) is ∙ parts_some 44 word) e
 
 -- the numbers so far, and those of the pieces that are left
 abbrev pub IsBehind : List ℕ → Words → List ℕ → Type 0

@@ -1,18 +1,18 @@
 -- What is known is in the wiring.
 use Rattle.std.proofs.Common.{◌≡◌, ℕ, ◌<◌, Bool, true, false, cond, List, [], ◌∷◌, length, Option, Some, None, Ok, inl, inr, refl, sym, ap, subst, arith}
 use Rattle.std.specs.Prelude.{nat_lt, is_some, IsSome}
-use Rattle.std.specs.List.{All, slice_get, position_or_len}
+use Rattle.std.specs.List.{All, position_or_len}
 use Rattle.std.specs.Str.{bytes_eq}
 use Rattle.std.proofs.lemmas.Bool.Decides.{nat_tests}
 use Rattle.std.proofs.lemmas.List.{length-map}
 use Rattle.std.proofs.lemmas.List.Elements.{All-nil, All-cons}
-use Rattle.std.proofs.lemmas.Option.{slice_get-get_or}
 use Rattle.ccr_base.specs.declared.names.Spot.{Spot}
 use Rattle.ccr_base.specs.declared.names.Spot.TheVariants.{Branch, Site}
 use Rattle.ccr_base.proofs.Booleans.{chosen}
+use Rattle.ccr_base.proofs.Options.{get-some}
 use Rattle.ccr_wiring.specs.declared.parts.CausePart.{CausePart}
 use Rattle.ccr_wiring.specs.declared.parts.Parts.{Parts}
-use Rattle.ccr_wiring.specs.Wirings.{Placement, placement, placements, site_port}
+use Rattle.ccr_wiring.specs.Wirings.{placement, placements, site_port}
 use Rattle.ccr_model.specs.declared.history.Event.{Event}
 use Rattle.ccr_model.specs.declared.history.Event.TheVariants as events
 use Rattle.ccr_model.specs.declared.history.EndHow.{EndHow}
@@ -46,11 +46,7 @@ each_good read Good good (w ∷ words) values e =
     subst (λ (v : List _). All Good v) (some_is (first.0 ∷ rest.0) values rest.2) (All-cons Good first.0 rest.0 (good w first.0 first.1) (each_good read Good good words rest.0 rest.1))
 
 placement_there : (parts : Parts) (branch : ℕ) → branch < length (placements parts) → IsSome (placement parts branch)
-placement_there parts branch below = at_place (placements parts) below
-  where
-    at_place : (xs : List Placement) → branch < length xs → is_some (slice_get xs branch) ≡ true
-    at_place [] below = absurd (omega arith)
-    at_place (x ∷ xs) below = ap is_some (slice_get-get_or (x ∷ xs) branch x below)
+placement_there parts branch below = ap is_some (get-some (placements parts) branch below).1
 
 spot_there : (parts : Parts) (branch : ℕ) (site : Option ℕ) (spot : Spot) → branch < length (placements parts) → spot_at parts branch site ≡ Some spot → IsKnownSpot parts spot
 spot_there parts branch None spot below e = subst (λ (s : Spot). IsKnownSpot parts s) (some_is (Branch branch) spot e) (placement_there parts branch below)

@@ -13,9 +13,9 @@ use Rattle.ccr_trace.specs.declared.reading.ReadHistory.{ReadHistory}
 use Rattle.ccr_trace.specs.Answers.{HasCode, IsRefusal, IsReading, refused}
 use Rattle.ccr_trace.specs.Reading.{event_on, ended, first_line, head, with_event, reading_from, reading_lines}
 use Rattle.ccr_trace.specs.Pieces.{pieces, bytes_in}
-use Rattle.ccr_trace.proofs.Splitting.{pieces_some}
 use Rattle.std.specs.List.{onto_first}
 use Rattle.std.proofs.lemmas.List.Sums.{sum_by-cons}
+use Rattle.ccr_text.proofs.Parts.{parts_some}
 
 -- no line is left
 pub reading_none : (parts : Parts) (read : ReadHistory) → reading_from parts read [] ≡ Err (ended read.lines [])
@@ -105,7 +105,7 @@ bytes-pieces separator (b ∷ bytes) = of_test (b == separator) (bytes-pieces se
   where
     of_test : (test : Bool) → bytes_in (pieces separator bytes) ≡ length bytes + 1 → bytes_in (cond test ([] ∷ pieces separator bytes) (onto_first b (pieces separator bytes))) ≡ length (b ∷ bytes) + 1
     of_test true rest = omega (arith, bytes_more [] (pieces separator bytes), rest)
-    of_test false rest = omega (arith, onto_first_more b (pieces separator bytes) (pieces_some separator bytes), rest)
+    of_test false rest = omega (arith, onto_first_more b (pieces separator bytes) (parts_some separator bytes), rest)
 
 pub ruleset first_steps = (lines_none, lines_last, lines_next, lines_stop)
 

@@ -1,12 +1,13 @@
 -- Names in the order of their numbers.
-use Rattle.std.proofs.Common.{◌≡◌, ℕ, zero, suc, ◌+◌, ◌<◌, Bool, false, cond, List, [], ◌∷◌, ◌++◌, map, length, get_or, take, Bor, refl, ap, ◌∙◌, arith}
+use Rattle.std.proofs.Common.{◌≡◌, ℕ, zero, suc, ◌+◌, ◌<◌, Bool, false, cond, List, [], ◌∷◌, ◌++◌, map, length, get_or, take, Bor, refl, ap, ◌∙◌, arith, sym}
 use Rattle.std.proofs.lemmas.List.{length-map}
-use Rattle.std.specs.Prelude.{◌||◌, not, position}
+use Rattle.std.specs.Prelude.{not, position}
 use Rattle.std.specs.List.{list_any, prefix_len, position_or_len}
 use Rattle.std.specs.Str.{bytes_eq}
 use Rattle.ccr_wiring.specs.Names.{has_name, has_repeated}
 use Rattle.ccr_trace.specs.Known.{number_in}
 use Rattle.std.proofs.lemmas.Bool.{or_parts as neither}
+use Rattle.ccr_base.proofs.Lists.{list_any-map}
 
 abbrev pub seen : List (Bor (List ℕ)) → List (List ℕ)
 seen keys = map (λ key. key.now) keys
@@ -26,14 +27,10 @@ fresh_at (x ∷ names) (suc i) d below apart =
     let rest : list_any (bytes_eq (get_or names i d).now) (seen (take i names)) ≡ false = fresh_at names i d (omega arith) parts.1 in
     rw (other, rest) refl
 
-any_seen : (test : List ℕ → Bool) (keys : List (Bor (List ℕ))) → list_any (λ key. test key.now) keys ≡ list_any test (seen keys)
-any_seen test [] = refl
-any_seen test (key ∷ keys) = ap (λ b. test key.now || b) (any_seen test keys)
-
 -- a name that isn't there goes last
 pub seen-insert : (keys : List (Bor (List ℕ))) (name : Bor (List ℕ)) → list_any (bytes_eq name.now) (seen keys) ≡ false
     → seen (cond (list_any (λ key. bytes_eq name.now key.now) keys) keys (keys ++ name ∷ [])) ≡ seen keys ++ name.now ∷ []
-seen-insert keys name fresh = rw (any_seen (bytes_eq name.now) keys ∙ fresh) (pushed keys)
+seen-insert keys name fresh = rw (sym (list_any-map (bytes_eq name.now) (λ (key : Bor (List ℕ)). key.now) keys) ∙ fresh) (pushed keys)
   where
     pushed : (ks : List (Bor (List ℕ))) → seen (ks ++ name ∷ []) ≡ seen ks ++ name.now ∷ []
     pushed [] = refl

@@ -15,6 +15,7 @@ use Rattle.ccr_trace.specs.Reading.{event_on, first_line, head, with_event, read
 use Rattle.ccr_trace.specs.Answers.{IsReading}
 use Rattle.ccr_trace.proofs.LineSteps.{bytes_more, bytes-pieces, first_bytes}
 use Rattle.ccr_trace.proofs.KnownEvents.{event_is_known, event_has_messages}
+use Rattle.ccr_text.proofs.Steps.{ok_is}
 
 abbrev pub Read : Type 0
 Read = Result ReadHistory (ℕ × ℕ)
@@ -24,9 +25,6 @@ done read = Ok read
 
 abbrev stopped : ℕ × ℕ → Read
 stopped at = Err at
-
-pub ok_is : (x y : ReadHistory) → done x ≡ done y → x ≡ y
-ok_is x y e = cc
 
 -- what the line of an event leaves to the lines behind it
 abbrev pub behind : Parts → ReadHistory → List ℕ → List (List ℕ) → Result Event ℕ → Read

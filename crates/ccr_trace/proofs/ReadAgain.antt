@@ -14,20 +14,21 @@ use Rattle.ccr_model.specs.declared.history.Event.{Event}
 use Rattle.ccr_model.specs.declared.history.Event.TheVariants as events
 use Rattle.ccr_text.specs.Spelling.{joined, line_text, text_of}
 use Rattle.ccr_text.proofs.Digits.{AreReadAgain}
+use Rattle.ccr_text.proofs.Parts.{lacks, part_before, parts_some}
+use Rattle.ccr_text.proofs.Steps.{ok_is}
 use Rattle.ccr_trace.specs.declared.reading.ReadHistory.{ReadHistory}
 use Rattle.ccr_trace.specs.Pieces.{pieces}
 use Rattle.ccr_trace.specs.HistoryText.{first_words, event_words, history_text}
 use Rattle.ccr_trace.specs.Forms.{said_on}
 use Rattle.ccr_trace.specs.Known.{IsKnown, HasMessages, IsShort, AreKnown, HaveMessages, AreShort}
 use Rattle.ccr_trace.specs.Reading.{event_on, first_line, head, with_event, reading_from, reading_lines, reading}
-use Rattle.ccr_trace.proofs.Splitting.{pieces_some}
-use Rattle.ccr_trace.proofs.Parting.{AreGraphic, lacks, pieces_first, joined_lacks}
+use Rattle.ccr_trace.proofs.Parting.{AreGraphic, joined_lacks}
 use Rattle.ccr_trace.proofs.FormsSaid.{line_told}
 use Rattle.ccr_trace.proofs.FormsRead.{said_again, said_graphic}
 use Rattle.ccr_trace.proofs.EventsSaid.{said_of, words_of_said, said_good, known_again, known_words}
 use Rattle.ccr_trace.proofs.KnownEvents.{event_said}
 use Rattle.ccr_trace.proofs.LineSteps.{reading_next, reading_done, lines_next, first_bytes}
-use Rattle.ccr_trace.proofs.Outcomes.{done, behind, ok_is, step_ok, head_ok}
+use Rattle.ccr_trace.proofs.Outcomes.{done, behind, step_ok, head_ok}
 
 -- the first line has no LF
 first_lacks : (parts : Parts) → lacks 10 (first_line parts) ≡ true
@@ -92,8 +93,8 @@ module _ (numbers : AreReadAgain) (parts : Parts) (valid : IsValid parts) where
   again_from : (more : List ℕ) (history : List Event) (read : ReadHistory) → AreKnown parts history → HaveMessages history → AreShort history
       → reading_from parts read (pieces 10 (events_text parts history ++ report_before more)) ≡ Ok (record { history = read.history ++ history; rest = read.rest + length (events_text parts history); lines = read.lines + length history })
   again_from more [] read there some short =
-      ap (reading_from parts read) (pieces_first 10 (codes "report 1") more refl)
-      ∙ (reading_done parts read (codes "report 1") (pieces 10 more) (pieces_some 10 more) refl
+      ap (reading_from parts read) (part_before 10 (codes "report 1") more refl)
+      ∙ (reading_done parts read (codes "report 1") (pieces 10 more) (parts_some 10 more) refl
       ∙ same_read read.history (read.history ++ []) read.rest (read.rest + 0) read.lines (read.lines + 0) (sym (append-nil read.history)) (omega arith) (omega arith))
   again_from more (event ∷ history) read there some short =
       let known_here = (recursion_from_All (IsKnown parts) (event ∷ history) there).0 in
@@ -101,10 +102,10 @@ module _ (numbers : AreReadAgain) (parts : Parts) (valid : IsValid parts) where
       let short_here = (recursion_from_All IsShort (event ∷ history) short).0 in
       let line = joined (event_words parts event) in
       let rest = events_text parts history ++ report_before more in
-      let lines : pieces 10 (events_text parts (event ∷ history) ++ report_before more) ≡ line ∷ pieces 10 rest = ap (pieces 10) (more_events parts event history (report_before more)) ∙ pieces_first 10 line rest (joined_lacks (event_words parts event) (event_graphic event known_here some_here short_here)) in
+      let lines : pieces 10 (events_text parts (event ∷ history) ++ report_before more) ≡ line ∷ pieces 10 rest = ap (pieces 10) (more_events parts event history (report_before more)) ∙ part_before 10 line rest (joined_lacks (event_words parts event) (event_graphic event known_here some_here short_here)) in
       let later = again_from more history (with_event read line event) (λ k d below. there (suc k) d (omega arith)) (λ k d below. some (suc k) d (omega arith)) (λ k d below. short (suc k) d (omega arith)) in
       ap (reading_from parts read) lines
-      ∙ (reading_next parts read line (pieces 10 rest) event (pieces_some 10 rest) (not_report parts event) (event_again event known_here some_here short_here)
+      ∙ (reading_next parts read line (pieces 10 rest) event (parts_some 10 rest) (not_report parts event) (event_again event known_here some_here short_here)
       ∙ (later
       ∙ same_read ((read.history ++ event ∷ []) ++ history) (read.history ++ event ∷ history) ((read.rest + (length line + 1)) + length (events_text parts history)) (read.rest + length (events_text parts (event ∷ history))) ((read.lines + 1) + length history) (read.lines + length (event ∷ history))
       (append_assoc read.history (event ∷ []) history) (omega (arith, count_bytes parts event history)) (omega arith)))
@@ -114,9 +115,9 @@ module _ (numbers : AreReadAgain) (parts : Parts) (valid : IsValid parts) where
       → reading parts (history_text parts history ++ report_before more) ≡ Ok (record { history = history; rest = length (history_text parts history); lines = length history + 1 })
   history_again history more there some short =
       let rest = events_text parts history ++ report_before more in
-      let lines : pieces 10 (history_text parts history ++ report_before more) ≡ first_line parts ∷ pieces 10 rest = ap (pieces 10) (more_lines parts history (report_before more)) ∙ pieces_first 10 (first_line parts) rest (first_lacks parts) in
+      let lines : pieces 10 (history_text parts history ++ report_before more) ≡ first_line parts ∷ pieces 10 rest = ap (pieces 10) (more_lines parts history (report_before more)) ∙ part_before 10 (first_line parts) rest (first_lacks parts) in
       ap (reading_lines parts) lines
-      ∙ (lines_next parts (first_line parts) (pieces 10 rest) (pieces_some 10 rest) (same_text (first_line parts))
+      ∙ (lines_next parts (first_line parts) (pieces 10 rest) (parts_some 10 rest) (same_text (first_line parts))
       ∙ (again_from more history head there some short
       ∙ same_read ([] ++ history) history (10 + length (events_text parts history)) (length (history_text parts history)) (1 + length history) (length history + 1) refl (omega (arith, count_lines parts history)) (omega arith)))
 

@@ -5,16 +5,15 @@ use Rattle.std.specs.Str.{bytes_eq}
 use Rattle.std.proofs.lemmas.Bool.Decides.{nat_tests}
 use Rattle.std.proofs.lemmas.List.{length-map}
 use Rattle.ccr_base.proofs.Texts.{same_word}
+use Rattle.ccr_base.proofs.Options.{some_then}
 use Rattle.ccr_trace.specs.Fields.{◌>>=◌, where_spelled, where_short, where_few}
 use Rattle.ccr_trace.specs.Pieces.{pieces}
-use Rattle.ccr_trace.proofs.Splitting.{pieces_some}
 use Rattle.ccr_trace.specs.Forms.{word, no_more, only, field, is_some_of}
 use Rattle.ccr_text.specs.Fields.{Words}
+use Rattle.ccr_text.proofs.Parts.{parts_some}
 
--- the value of a step that found something
 pub bind_some : {A B : Type 0} (found : Option A) (next : A → Option B) (y : B) → (found >>= next) ≡ Some y → (x : A) × (found ≡ Some x) × (next x ≡ Some y)
-bind_some None next y e = absurd cc
-bind_some (Some x) next y e = (x, refl, e)
+bind_some found next y e = some_then next found y e
 
 abbrev pub only_one : {A : Type 0} → A → Option A
 only_one x = Some x
@@ -78,6 +77,6 @@ few_is most numbers value e = by (nat_le (length numbers) most) refl e
 -- what is spelled by the pieces is one at least
 pub some_pieces : {A : Type 0} (separator : ℕ) (bytes : List ℕ) (values : List A) (spell : A → List ℕ) → map spell values ≡ pieces separator bytes → 0 < length values
 some_pieces separator bytes values spell same =
-    let some = pieces_some separator bytes in
+    let some = parts_some separator bytes in
     let many : length values ≡ length (pieces separator bytes) = sym (length-map values spell) ∙ ap length same in
     grind (arith, nat_tests, some, many)

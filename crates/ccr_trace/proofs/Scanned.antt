@@ -1,34 +1,26 @@
 -- Words that one scan finds are what whole words say.
-use Rattle.std.proofs.Common.{◌≡◌, ℕ, Bool, true, false, cond, List, [], ◌∷◌, ◌++◌, length, Some, None, refl, sym, ap, ◌∙◌, append_assoc}
-use Rattle.std.specs.Prelude.{◌==◌, ◌&&◌, not, nat_lt, ◌^◌}
-use Rattle.std.specs.List.{list_all, join_with_byte}
+use Rattle.std.proofs.Common.{◌≡◌, ℕ, true, false, List, [], ◌∷◌, ◌++◌, Some, refl, sym, ap, ◌∙◌, append_assoc}
+use Rattle.std.specs.Prelude.{◌==◌, not}
+use Rattle.std.specs.List.{list_all}
 use Rattle.std.specs.Char.{is_ascii_digit}
-use Rattle.std.proofs.lemmas.List.Splits.{join_with_byte-slice_split}
 use Rattle.ccr_base.specs.declared.names.MsgId.TheVariants as ids
-use Rattle.ccr_text.specs.Words.{is_digits, value_after, number_of}
+use Rattle.ccr_text.specs.Words.{number_of}
 use Rattle.ccr_trace.specs.Pieces.{pieces}
 use Rattle.ccr_trace.specs.Fields.{where_spelled, where_short, exact_number, short_number, task_of, message_of}
 use Rattle.ccr_trace.specs.Forms.{field}
 use Rattle.ccr_text.specs.Fields.{Words}
-use Rattle.ccr_trace.proofs.Splitting.{pieces_some}
-use Rattle.ccr_trace.proofs.Parting.{lacks, other, lacks-append, lacks_tested, pieces_first, pieces_only}
+use Rattle.ccr_text.proofs.Parts.{lacks, lacks_tested, part_before, part_alone, cut_at}
+use Rattle.ccr_text.proofs.Decimals.{digits_alone}
+use Rattle.ccr_trace.proofs.Parting.{lacks-append}
 use Rattle.ccr_trace.proofs.ReadTellsSteps.{bind_some, field_some}
-use Rattle.std.proofs.lemmas.Bool.{and_parts as both}
-
--- what stands before the first separator, and what behind it
-cut_at : (separator : ℕ) (bytes word rest : List ℕ) → pieces separator bytes ≡ word ∷ pieces separator rest → bytes ≡ word ++ separator ∷ rest
-cut_at separator bytes word rest is = sym (join_with_byte-slice_split separator bytes) ∙ (ap (join_with_byte separator) is ∙ by (pieces separator rest) refl)
-  where
-    by : (parts : Words) → pieces separator rest ≡ parts → join_with_byte separator (word ∷ parts) ≡ word ++ separator ∷ rest
-    by [] none = absurd (let some : (length {A = List ℕ} [] == 0) ≡ false = ap (λ (ps : Words). length ps == 0) (sym none) ∙ pieces_some separator rest in cc)
-    by (part ∷ parts) are = ap (λ (back : List ℕ). word ++ separator ∷ back) (ap (join_with_byte separator) (sym are) ∙ join_with_byte-slice_split separator rest)
+use Rattle.ccr_base.proofs.Booleans.{both, not_true}
 
 -- bytes that lack the separator go into the first piece
 pieces_behind : (separator : ℕ) (front bytes word : List ℕ) (words : Words) → lacks separator front ≡ true → pieces separator bytes ≡ word ∷ words → pieces separator (front ++ bytes) ≡ (front ++ word) ∷ words
 pieces_behind separator [] bytes word words e is = is
 pieces_behind separator (b ∷ front) bytes word words e is =
     let parts = both (not (b == separator)) (lacks separator front) e in
-    rw (other b separator parts.0, pieces_behind separator front bytes word words parts.1 is) refl
+    rw (not_true (b == separator) parts.0, pieces_behind separator front bytes word words parts.1 is) refl
 
 -- a number's word has digits alone
 digits_of : (word : List ℕ) (n : ℕ) → short_number word ≡ Some n → list_all is_ascii_digit word ≡ true
@@ -36,11 +28,7 @@ unfolding short_number exact_number
 digits_of word n e =
     let exact = bind_some (exact_number word) where_short n e in
     let number = bind_some (number_of word) (where_spelled word) exact.0 exact.1 in
-    by (is_digits word) (nat_lt (value_after 0 word) (2 ^ 64)) refl number.1
-  where
-    by : (a b : Bool) {m : ℕ} → is_digits word ≡ a → cond (a && b) (Some (value_after 0 word)) None ≡ Some m → list_all is_ascii_digit word ≡ true
-    by true b is some = (both _ (list_all is_ascii_digit word) is).1
-    by false b is some = absurd cc
+    (digits_alone word number.0 number.1).1
 
 number_lacks : (separator : ℕ) (word : List ℕ) (n : ℕ) → is_ascii_digit separator ≡ false → short_number word ≡ Some n → lacks separator word ≡ true
 number_lacks separator word n none e = lacks_tested is_ascii_digit separator word none (digits_of word n e)
@@ -60,7 +48,7 @@ task_scanned numbers rest a k behind e f =
     let first = field_some short_number (pieces 46 numbers) (a, pieces 46 rest) e in
     let next = field_some short_number (pieces 32 rest) (k, behind) f in
     let words = letter_number 116 numbers rest first.0 next.0 a behind refl first.2 (cut_at 46 numbers first.0 rest first.1) next.1 in
-    rw (words, pieces_first 46 first.0 next.0 (number_lacks 46 first.0 a refl first.2), pieces_only 46 next.0 (number_lacks 46 next.0 k refl next.2), first.2, next.2) refl
+    rw (words, part_before 46 first.0 next.0 (number_lacks 46 first.0 a refl first.2), part_alone 46 next.0 (number_lacks 46 next.0 k refl next.2), first.2, next.2) refl
 
 pub script_scanned : (numbers rest : List ℕ) (a k : ℕ) (behind : Words) → field short_number (pieces 46 numbers) ≡ Some (a, pieces 46 rest) → field short_number (pieces 32 rest) ≡ Some (k, behind)
     → field message_of (pieces 32 (115 ∷ numbers)) ≡ Some (ids.Script a k, behind)
@@ -69,7 +57,7 @@ script_scanned numbers rest a k behind e f =
     let first = field_some short_number (pieces 46 numbers) (a, pieces 46 rest) e in
     let next = field_some short_number (pieces 32 rest) (k, behind) f in
     let words = letter_number 115 numbers rest first.0 next.0 a behind refl first.2 (cut_at 46 numbers first.0 rest first.1) next.1 in
-    rw (words, pieces_first 46 first.0 next.0 (number_lacks 46 first.0 a refl first.2), pieces_only 46 next.0 (number_lacks 46 next.0 k refl next.2), first.2, next.2) refl
+    rw (words, part_before 46 first.0 next.0 (number_lacks 46 first.0 a refl first.2), part_alone 46 next.0 (number_lacks 46 next.0 k refl next.2), first.2, next.2) refl
 
 pub task_message_scanned : (numbers second third : List ℕ) (a k i : ℕ) (behind : Words) → field short_number (pieces 46 numbers) ≡ Some (a, pieces 46 second) → field short_number (pieces 46 second) ≡ Some (k, pieces 46 third)
     → field short_number (pieces 32 third) ≡ Some (i, behind) → field message_of (pieces 32 (116 ∷ numbers)) ≡ Some (ids.Task (record { actor = a; attempt = k }) i, behind)
@@ -82,4 +70,4 @@ task_message_scanned numbers second third a k i behind e f g =
     ap (pieces 32) (cut_at 46 second next.0 third next.1 ∙ sym (append_assoc next.0 (46 ∷ []) third))
     ∙ (pieces_behind 32 (next.0 ++ 46 ∷ []) third last.0 behind (lacks-append 32 next.0 (46 ∷ []) (number_lacks 32 next.0 k refl next.2) refl) last.1 ∙ ap (λ (w : List ℕ). w ∷ behind) (append_assoc next.0 (46 ∷ []) last.0)) in
     let words = letter_number 116 numbers second first.0 (next.0 ++ 46 ∷ last.0) a behind refl first.2 (cut_at 46 numbers first.0 second first.1) inner in
-    rw (words, pieces_first 46 first.0 (next.0 ++ 46 ∷ last.0) (number_lacks 46 first.0 a refl first.2), pieces_first 46 next.0 last.0 (number_lacks 46 next.0 k refl next.2), pieces_only 46 last.0 (number_lacks 46 last.0 i refl last.2), first.2, next.2, last.2) refl
+    rw (words, part_before 46 first.0 (next.0 ++ 46 ∷ last.0) (number_lacks 46 first.0 a refl first.2), part_before 46 next.0 last.0 (number_lacks 46 next.0 k refl next.2), part_alone 46 last.0 (number_lacks 46 last.0 i refl last.2), first.2, next.2, last.2) refl

@@ -1,7 +1,6 @@
 -- What makes a value single: one number at most.
-use Rattle.std.proofs.Common.{inl, inr, ◌≡◌, ℕ, suc, ◌≤◌, Bool, true, false, not, ◌&&◌, List, [], ◌∷◌, length, map, Option, Some, None, refl, ap, subst, arith}
-use Rattle.std.specs.Prelude.{◌==◌, if◌then◌else◌, nat_eq, nat_lt, nat_le, slice_get, unwrap_or}
-use Rattle.std.specs.Cmp.Lexicographic.{pointwise}
+use Rattle.std.proofs.Common.{inl, inr, ◌≡◌, ℕ, ◌≤◌, Bool, true, false, not, ◌&&◌, List, [], ◌∷◌, length, map, Option, Some, None, refl, ap, subst, arith}
+use Rattle.std.specs.Prelude.{◌==◌, if◌then◌else◌, nat_lt, nat_le, slice_get, unwrap_or}
 use Rattle.std.specs.List.{range_with_len}
 use Rattle.std.proofs.lemmas.Bool.Decides.{nat_tests}
 use Rattle.std.proofs.lemmas.List.{length-map}
@@ -14,7 +13,7 @@ use Rattle.ccr_wiring.specs.declared.parts.Parts.{Parts}
 use Rattle.ccr_wiring.specs.Valid.{IsValid}
 use Rattle.ccr_wiring.specs.Versions.{expr_is_newer, is_long, is_newer}
 use Rattle.ccr_wiring.proofs.Validity.{no_codes}
-use Rattle.ccr_base.proofs.Booleans.{both}
+use Rattle.ccr_base.proofs.SameNames.{same_values}
 use Rattle.ccr_model.proofs.Members.{Among, Among-at}
 use Rattle.ccr_trace.specs.Known.{IsOfVersion}
 use Rattle.ccr_trace.specs.Values.{IsSingle, IsSmallValue}
@@ -28,16 +27,10 @@ pub not_long : (value : List ℕ) → is_long value ≡ false → IsSingle value
 unfolding IsSingle
 not_long value none = grind (arith, nat_tests, none)
 
-same_value-length : (value other : List ℕ) → same_value value other ≡ true → length value ≡ length other
-same_value-length [] [] is = refl
-same_value-length [] (n ∷ other) is = absurd cc
-same_value-length (n ∷ value) [] is = absurd cc
-same_value-length (n ∷ value) (m ∷ other) is = ap suc (same_value-length value other (both (nat_eq n m) (pointwise nat_eq value other) is).1)
-
 -- a value that is the same as a single one
 pub same_single : (value other : List ℕ) → same_value value other ≡ true → IsSingle other → IsSingle value
 unfolding IsSingle
-same_single value other is single = omega (arith, same_value-length value other is, single)
+same_single value other is single = omega (arith, ap length (same_values value other is), single)
 
 -- a sum is as long as the longest value
 longest_single : (values : List (List ℕ)) → AreSingle values → longest values ≤ 1

@@ -6,8 +6,8 @@ use Rattle.ccr_base.specs.Values.{value_of_numbers}
 use Rattle.ccr_trace.specs.Pieces.{pieces}
 use Rattle.ccr_trace.specs.Fields.{◌>>=◌, each, exact_number, where_few, values_in}
 use Rattle.ccr_trace.proofs.ReadTellsSteps.{bind_some, some_is}
-use Rattle.ccr_trace.proofs.Splitting.{pieces_some}
 use Rattle.ccr_trace.proofs.Each.{behind_found, each_fails, each_none}
+use Rattle.ccr_text.proofs.Parts.{parts_some}
 
 -- as many values as words
 pub length-each : {A : Type 0} (read : List ℕ → Option A) (words : List (List ℕ)) (values : List A) → each read words ≡ Some values → length values ≡ length words
@@ -44,7 +44,7 @@ pub all_read : (word : List ℕ) (found : List ℕ) → length found ≤ 8 → b
 all_read word found few so =
     let is : each exact_number (pieces 44 word) ≡ Some found = sym so ∙ each_none exact_number found in
     let count = length-each exact_number (pieces 44 word) found is in
-    let pieces_are = pieces_some 44 word in
+    let pieces_are = parts_some 44 word in
     let some : nat_lt 0 (length found) ≡ true = grind (arith, nat_tests, count, pieces_are) in
     let fits : nat_le (length found) 8 ≡ true = grind (arith, nat_tests, few) in
     rw (is, some, fits) refl

@@ -1,5 +1,5 @@
 -- A word that is spelled is read again.
-use Rattle.std.proofs.Common.{◌≡◌, ℕ, suc, ◌^◌, ◌<◌, Bool, true, false, cond, List, [], ◌∷◌, ◌++◌, length, map, Option, Some, None, refl, sym, ap, subst, ◌∙◌, append_assoc, append-nil, arith}
+use Rattle.std.proofs.Common.{◌≡◌, ℕ, suc, ◌^◌, ◌<◌, true, false, List, [], ◌∷◌, ◌++◌, length, map, Option, Some, None, refl, sym, ap, subst, ◌∙◌, append_assoc, append-nil, arith}
 use Rattle.std.specs.Prelude.{◌&&◌, nat_lt, nat_le, decimal}
 use Rattle.std.specs.List.{All, list_all}
 use Rattle.std.specs.Char.{is_ascii_digit, is_ascii_alphabetic}
@@ -9,15 +9,17 @@ use Rattle.ccr_base.specs.declared.names.TaskId.{TaskId}
 use Rattle.ccr_base.specs.declared.names.MsgId.{MsgId}
 use Rattle.ccr_base.specs.declared.names.MsgId.TheVariants as ids
 use Rattle.ccr_base.proofs.Texts.{same_text}
-use Rattle.ccr_base.proofs.Lists.{all_weaker}
-use Rattle.ccr_text.specs.Words.{is_digits, is_graphic, value_after, may_be_in_name}
+use Rattle.ccr_base.proofs.Lists.{all_weaker, all_both}
+use Rattle.ccr_text.specs.Words.{is_graphic, may_be_in_name}
 use Rattle.ccr_trace.specs.Words.{task_word, message_word}
 use Rattle.ccr_text.specs.Exact.{value_word}
 use Rattle.ccr_text.proofs.Digits.{AreReadAgain}
+use Rattle.ccr_text.proofs.Parts.{lacks, part_before, part_alone, lacks_tested}
+use Rattle.ccr_text.proofs.Decimals.{digits_alone}
 use Rattle.ccr_trace.specs.Pieces.{pieces}
 use Rattle.ccr_trace.specs.Said.{SpotName, spot_name_word, site_word, most_numbers, IsTask, IsMessage, IsName, IsSite, IsValue}
 use Rattle.ccr_trace.specs.Fields.{each, exact_number, short_number, value_of, task_of, message_of, spot_in, spot_of}
-use Rattle.ccr_trace.proofs.Parting.{lacks, AreLacking, pieces_first, pieces_only, pieces_join, lacks_tested, graphic, graphic-append}
+use Rattle.ccr_trace.proofs.Parting.{AreLacking, pieces_join, graphic}
 use Rattle.std.proofs.lemmas.Bool.{and_parts as both}
 
 letters : (name : List ℕ) → IsName name → list_all may_be_in_name name ≡ true
@@ -45,11 +47,7 @@ each_read read spell Good again (x ∷ xs) good =
 
 module _ (numbers : AreReadAgain) where
   digits_of : (n : ℕ) → n < 2 ^ 64 → list_all is_ascii_digit (decimal n) ≡ true
-  digits_of n fits = by (is_digits (decimal n)) (nat_lt (value_after 0 (decimal n)) (2 ^ 64)) refl (numbers n fits)
-    where
-      by : (a b : Bool) → is_digits (decimal n) ≡ a → cond (a && b) (Some (value_after 0 (decimal n))) None ≡ Some n → list_all is_ascii_digit (decimal n) ≡ true
-      by true b is e = (both _ (list_all is_ascii_digit (decimal n)) is).1
-      by false b is e = absurd cc
+  digits_of n fits = (digits_alone (decimal n) n (numbers n fits)).1
 
   -- no dot and no @ stands among digits
   number_lacks : (separator n : ℕ) → is_ascii_digit separator ≡ false → n < 2 ^ 64 → lacks separator (decimal n) ≡ true
@@ -69,7 +67,7 @@ module _ (numbers : AreReadAgain) where
   short_lacks separator n none fits = number_lacks separator n none (omega arith)
 
   two_parts : (a k : ℕ) → a < 2 ^ 32 → k < 2 ^ 32 → pieces 46 (decimal a ++ 46 ∷ decimal k) ≡ decimal a ∷ decimal k ∷ []
-  two_parts a k small_a small_k = pieces_first 46 (decimal a) (decimal k) (short_lacks 46 a refl small_a) ∙ ap (λ (w : List (List ℕ)). decimal a ∷ w) (pieces_only 46 (decimal k) (short_lacks 46 k refl small_k))
+  two_parts a k small_a small_k = part_before 46 (decimal a) (decimal k) (short_lacks 46 a refl small_a) ∙ ap (λ (w : List (List ℕ)). decimal a ∷ w) (part_alone 46 (decimal k) (short_lacks 46 k refl small_k))
 
   pub task_read : (task : TaskId) → IsTask task → task_of (task_word task) ≡ Some task
   unfolding task_of
@@ -78,7 +76,7 @@ module _ (numbers : AreReadAgain) where
   three_parts : (a k i : ℕ) → a < 2 ^ 32 → k < 2 ^ 32 → i < 2 ^ 32 → pieces 46 ((decimal a ++ 46 ∷ decimal k) ++ 46 ∷ decimal i) ≡ decimal a ∷ decimal k ∷ decimal i ∷ []
   three_parts a k i small_a small_k small_i =
       ap (pieces 46) (append_assoc (decimal a) (46 ∷ decimal k) (46 ∷ decimal i))
-      ∙ (pieces_first 46 (decimal a) (decimal k ++ 46 ∷ decimal i) (short_lacks 46 a refl small_a) ∙ ap (λ (w : List (List ℕ)). decimal a ∷ w) (two_parts k i small_k small_i))
+      ∙ (part_before 46 (decimal a) (decimal k ++ 46 ∷ decimal i) (short_lacks 46 a refl small_a) ∙ ap (λ (w : List (List ℕ)). decimal a ∷ w) (two_parts k i small_k small_i))
 
   pub message_read : (message : MsgId) → IsMessage message → message_of (message_word message) ≡ Some message
   unfolding message_of
@@ -90,8 +88,8 @@ module _ (numbers : AreReadAgain) where
   spot_parts spot good site = by spot.site site refl
     where
       by : (s : Option ℕ) → IsSite s → spot.site ≡ s → spot_in (pieces 64 (spot.name ++ site_word s)) ≡ Some (record { name = spot.name; site = s })
-      by None fits is = rw (append-nil spot.name, pieces_only 64 spot.name (name_lacks spot.name good), good) refl
-      by (Some k) fits is = rw (pieces_first 64 spot.name (decimal k) (name_lacks spot.name good), pieces_only 64 (decimal k) (short_lacks 64 k refl fits), short_read k fits, good) refl
+      by None fits is = rw (append-nil spot.name, part_alone 64 spot.name (name_lacks spot.name good), good) refl
+      by (Some k) fits is = rw (part_before 64 spot.name (decimal k) (name_lacks spot.name good), part_alone 64 (decimal k) (short_lacks 64 k refl fits), short_read k fits, good) refl
 
   pub spot_read : (spot : SpotName) → IsName spot.name → IsSite spot.site → spot_of (spot_name_word spot) ≡ Some spot
   unfolding spot_of
@@ -104,14 +102,14 @@ module _ (numbers : AreReadAgain) where
   short_graphic n fits = number_graphic n (omega arith)
 
   pub task_graphic : (task : TaskId) → IsTask task → graphic (task_word task) ≡ true
-  task_graphic task good = graphic-append (decimal task.actor) (46 ∷ decimal task.attempt) (short_graphic task.actor good.0) (short_graphic task.attempt good.1)
+  task_graphic task good = all_both is_graphic (decimal task.actor) (46 ∷ decimal task.attempt) (short_graphic task.actor good.0) (short_graphic task.attempt good.1)
 
   pub message_graphic : (message : MsgId) → IsMessage message → graphic (message_word message) ≡ true
-  message_graphic (ids.Script actor place) good = graphic-append (decimal actor) (46 ∷ decimal place) (short_graphic actor good.0) (short_graphic place good.1)
-  message_graphic (ids.Task task place) good = graphic-append (task_word task) (46 ∷ decimal place) (task_graphic task good.0) (short_graphic place good.1)
+  message_graphic (ids.Script actor place) good = all_both is_graphic (decimal actor) (46 ∷ decimal place) (short_graphic actor good.0) (short_graphic place good.1)
+  message_graphic (ids.Task task place) good = all_both is_graphic (task_word task) (46 ∷ decimal place) (task_graphic task good.0) (short_graphic place good.1)
 
   pub spot_graphic : (spot : SpotName) → IsName spot.name → IsSite spot.site → graphic (spot_name_word spot) ≡ true
-  spot_graphic spot good site = graphic-append spot.name (site_word spot.site) (name_graphic spot.name good) (by spot.site site)
+  spot_graphic spot good site = all_both is_graphic spot.name (site_word spot.site) (name_graphic spot.name good) (by spot.site site)
     where
       by : (s : Option ℕ) → IsSite s → graphic (site_word s) ≡ true
       by None fits = refl
@@ -136,7 +134,7 @@ module _ (numbers : AreReadAgain) where
   value_bytes : (n : ℕ) (value : List ℕ) → All (λ m. m < 2 ^ 64) (n ∷ value) → graphic (value_word (n ∷ value)) ≡ true
   value_bytes n [] good = number_graphic n (recursion_from_All (λ m. m < 2 ^ 64) (n ∷ []) good).0
   value_bytes n (next ∷ value) good =
-      graphic-append (decimal n) (44 ∷ value_word (next ∷ value)) (number_graphic n (recursion_from_All (λ m. m < 2 ^ 64) (n ∷ next ∷ value) good).0)
+      all_both is_graphic (decimal n) (44 ∷ value_word (next ∷ value)) (number_graphic n (recursion_from_All (λ m. m < 2 ^ 64) (n ∷ next ∷ value) good).0)
       (value_bytes next value (λ k d below. good (suc k) d (omega arith)))
 
   pub value_graphic : (version : ℕ) (value : List ℕ) → IsValue version value → graphic (value_word value) ≡ true

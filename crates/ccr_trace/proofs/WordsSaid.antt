@@ -1,15 +1,14 @@
 -- A word says only what it spells.
-use Rattle.std.proofs.Common.{◌≡◌, ℕ, ◌^◌, ◌<◌, Bool, true, false, cond, List, [], ◌∷◌, ◌++◌, length, map, Option, Some, None, ◌⊎◌, inl, inr, refl, sym, ap, subst, ◌∙◌, append_assoc, append-nil, arith}
-use Rattle.std.specs.Prelude.{◌==◌, ◌&&◌, nat_lt, decimal}
+use Rattle.std.proofs.Common.{◌≡◌, ℕ, ◌^◌, ◌<◌, true, false, cond, List, [], ◌∷◌, ◌++◌, length, map, Option, Some, None, ◌⊎◌, inl, inr, refl, sym, ap, subst, ◌∙◌, append_assoc, append-nil}
+use Rattle.std.specs.Prelude.{◌==◌, decimal}
 use Rattle.std.specs.List.{join_with_byte, All}
-use Rattle.std.proofs.lemmas.Bool.Decides.{nat_tests}
 use Rattle.std.proofs.lemmas.List.Elements.{All-nil, All-cons}
 use Rattle.std.proofs.lemmas.List.Splits.{join_with_byte-slice_split}
 use Rattle.ccr_base.specs.declared.names.TaskId.{TaskId}
 use Rattle.ccr_base.specs.declared.names.MsgId.{MsgId}
 use Rattle.ccr_base.specs.declared.names.MsgId.TheVariants as ids
 use Rattle.ccr_base.proofs.Booleans.{same_number, chosen}
-use Rattle.ccr_text.specs.Words.{is_digits, value_after, number_of, is_name_of}
+use Rattle.ccr_text.specs.Words.{number_of, is_name_of}
 use Rattle.ccr_trace.specs.Words.{task_word, message_word}
 use Rattle.ccr_text.specs.Exact.{value_word}
 use Rattle.ccr_trace.specs.Pieces.{pieces}
@@ -17,16 +16,10 @@ use Rattle.ccr_trace.specs.Said.{SpotName, spot_name_word, most_numbers, IsTask,
 use Rattle.ccr_trace.specs.Fields.{each, where_spelled, where_short, where_few, exact_number, short_number, value_of, name_of, task_in, task_of, script_in, task_message_in, message_of, spot_with, spot_in, spot_of}
 use Rattle.ccr_trace.proofs.ReadTellsSteps.{bind_some, some_is, only_one, spelled_is, short_is, few_is, some_pieces}
 use Rattle.ccr_text.specs.Fields.{Words}
+use Rattle.ccr_text.proofs.Exact.{number_is}
 
 number_fits : (w : List ℕ) (n : ℕ) → number_of w ≡ Some n → n < 2 ^ 64
-number_fits w n e = by (is_digits w) (nat_lt (value_after 0 w) (2 ^ 64)) refl e
-  where
-    by : (a b : Bool) → nat_lt (value_after 0 w) (2 ^ 64) ≡ b → cond (a && b) (Some (value_after 0 w)) None ≡ Some n → n < 2 ^ 64
-    by false b is h = absurd cc
-    by true false is h = absurd cc
-    by true true is h =
-        let same : value_after 0 w ≡ n = some_is (value_after 0 w) n h in
-        grind (arith, nat_tests, is, same)
+number_fits w n e = (number_is w n e).2
 
 -- a number below 2 ^ 64
 pub number_said : (w : List ℕ) (n : ℕ) → exact_number w ≡ Some n → (n < 2 ^ 64) × (decimal n ≡ w)

@@ -1,5 +1,5 @@
 -- What the steps of one act come to.
-use Rattle.std.proofs.Common.{Bool, subst, length, false, eqb, eq-eqb, ne_eqb, ◌≡◌, ℕ, ◌<◌, List, [], ◌∷◌, ◌++◌, Option, Some, None, sym, refl, ap, ◌∙◌, arith}
+use Rattle.std.proofs.Common.{Bool, subst, length, eqb, eq-eqb, ne_eqb, ◌≡◌, ℕ, ◌<◌, List, [], ◌∷◌, ◌++◌, Option, Some, None, sym, ap, ◌∙◌, arith}
 use Rattle.std.proofs.lemmas.List.{map-append}
 use Rattle.ccr_turns.specs.Steps.{won}
 use Rattle.ccr_turns.specs.Views.{Sat, view, hold}
@@ -14,13 +14,13 @@ use mathlib.Core.Logic.{dite}
 use native.Mathlib.Decide.{ℕ_discrete}
 use mathlib.Core.Option.{none}
 use Rattle.atomic_table.specs.Table.{step}
-use Rattle.ccr_turns.specs.declared.history.Hold.{Hold}
 use Rattle.ccr_turns.specs.declared.history.Held.{Held}
 use Rattle.ccr_turns.specs.declared.history.Cell.{Cell}
 use Rattle.ccr_turns.specs.declared.history.LogEntry.{LogEntry}
 use Rattle.ccr_turns.specs.declared.history.Log.{Log}
 use Rattle.ccr_turns.specs.declared.kept.Keep.{Keep}
 use Rattle.ccr_turns.proofs.Rows.{last_more}
+use Rattle.ccr_base.proofs.Options.{not_some}
 
 module _ {N X : Type 0} where
   pub last_logged : (logged : List (LogEntry N X)) (m : LogEntry N X) → last_of 0 (log_stamps (logged ++ m ∷ [])) ≡ m.stamp
@@ -59,10 +59,6 @@ module _ {O N X : Type 0} where
   ready_again m n same ready = subst Ready (sym same) ready
 
 module _ {N X : Type 0} where
-  no_hold : (h : Option (Hold N X)) → is_some h ≡ false → h ≡ None
-  no_hold None e = refl
-  no_hold (Some h) e = absurd (cc)
-
   pub one_log : (number : ℕ) (ls : List (Log N X)) → numbers_of ls ≡ number ∷ [] → ls ≡ log number (logged_of ls) ∷ []
   one_log number [] e = absurd (let a = ap length e in omega arith)
   one_log number (l ∷ []) e = let is : l.number ≡ number = cc in λ d. log (is d) l.logged ∷ []
@@ -73,7 +69,7 @@ module _ {O N X : Type 0} where
   pub at_rest : (number last : ℕ) (m : Sat O N X) → IsAtRest number last m → m ≡ (view (log number (logged_of m.0.logs) ∷ []) None, [])
   at_rest number last m resting =
       let logs = one_log number m.0.logs resting.2 in
-      let free = no_hold m.0.hold resting.0 in
+      let free = not_some m.0.hold resting.0 in
       let empty = nil_from_length m.1 resting.1 in
       λ d. (view (logs d) (free d), empty d)
 

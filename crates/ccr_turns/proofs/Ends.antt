@@ -14,6 +14,7 @@ use Rattle.ccr_turns.specs.Locks.{IsLeft, Agrees, sifted_of, HasWhole}
 use Rattle.ccr_turns.specs.Seated.{IsLaid, HasCells, Lifted}
 use Rattle.ccr_turns.specs.Lists.{total, below, last_of}
 use Rattle.ccr_base.specs.Lists.{Each}
+use Rattle.ccr_base.proofs.Lists.{zeros_in, all_from_each}
 use Rattle.ccr_turns.specs.Logs.{log, fresh, told, FitsLog}
 use Rattle.ccr_turns.specs.Views.{Sat, view, weight, opening_view, first_logs, later_logs, split_left, split_right, joined, spent}
 use Rattle.ccr_turns.specs.Histories.{left_by, Place, entries, history_stamps, keeps, sifted, past, IsRight}
@@ -26,7 +27,7 @@ use Rattle.ccr_turns.specs.declared.history.Hold.{Hold}
 use Rattle.ccr_turns.specs.declared.history.View.{View}
 use Rattle.ccr_turns.specs.declared.kept.Keep.{Keep}
 use Rattle.ccr_turns.specs.declared.kept.Keep.TheVariants.{Every}
-use Rattle.ccr_turns.proofs.Rows.{all_from, there_by_slice, stamps_rise, zip_from, zip_at, zip_length, all_from_each, below-only-one, only, total-set, total-append, total-one, below-one, there, within, Some-at, terms_le, at_append, one-counts, no-total, only-one}
+use Rattle.ccr_turns.proofs.Rows.{all_from, there_by_slice, stamps_rise, zip_from, zip_at, zip_length, below-only-one, only, total-set, total-append, total-one, below-one, there, within, Some-at, terms_le, at_append, one-counts, no-total, only-one}
 
 module _ {N X : Type 0} where
   cut-total : (f : Log N X → ℕ) (ls : List (Log N X)) → total f (later_logs ls) + total f (first_logs ls) ≡ total f ls
@@ -228,16 +229,11 @@ module _ {O N X A R : Type 0} (value : O → X) (after : X → N → X) (may : X
         numbers = λ f. let a = fresh-total N X f 0 seats in let e : 0 + seats ≡ seats = omega arith in let b = ap (below f) e in omega arith;
       }
 
-  zero_reads : (n i : ℕ) → get_or (replicate n zero) i zero ≡ zero
-  zero_reads zero i = refl
-  zero_reads (suc n) zero = refl
-  zero_reads (suc n) (suc i) = zero_reads n i
-
   -- the table with the objects, each under a free lock
   pub starts_free : (n : ℕ) (ws : List ℕ) (xs : List S) → ws ≡ replicate n zero → n ≡ length objects → AllZip (IsLaid keep) objects xs → Rule (opening ws xs (opening_view seats))
   starts_free n ws xs zeros count laid =
       let long = zip_length (IsLaid {O = O} {N = N} keep) objects xs laid in
-      starts ws xs (ap length zeros ∙ (length-replicate n zero ∙ (count ∙ long))) (λ i. ap (λ (l : List ℕ). get_or l i 0) zeros ∙ zero_reads n i) long
+      starts ws xs (ap length zeros ∙ (length-replicate n zero ∙ (count ∙ long))) (λ i. ap (λ (l : List ℕ). get_or l i 0) zeros ∙ zeros_in n i) long
       (λ i x at. let t = zip_at (IsLaid {O = O} {N = N} keep) objects xs i x laid at in let c = t.2.0 in (c, t.1 ∙ ap some t.2.1, t.2.2, t.2.3, t.2.4, t.2.5, t.2.6, t.2.7))
 
   -- what the closed places and logs come to

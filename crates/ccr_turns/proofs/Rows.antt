@@ -13,7 +13,7 @@ use lib.ListN.{get_elem?}
 use Rattle.ccr_turns.specs.Histories.{history_stamps, left_by, Given, Place, entries}
 use Rattle.ccr_turns.specs.Logs.{log_stamps, Stamped, log_entry, at_place, told}
 use Rattle.ccr_turns.specs.Lists.{total, below, Rises, last_of}
-use Rattle.ccr_base.specs.Lists.{Each}
+use Rattle.ccr_base.proofs.Lists.{range_more}
 use Rattle.ccr_turns.specs.declared.history.Held.{Held}
 use Rattle.ccr_turns.specs.declared.history.LogEntry.{LogEntry}
 
@@ -171,10 +171,6 @@ pub all_from : {A : Type 0} (P : A → Type 0) (xs : List A) → ((i : ℕ) (a :
 all_from P [] h = All-nil P
 all_from P (x ∷ xs) h = All-cons P x xs (h 0 x refl) (all_from P xs (λ i a at. h (suc i) a at))
 
-pub all_from_each : {A : Type 0} (P : A → Type 0) (xs : List A) → Each P xs → All P xs
-all_from_each P [] h = All-nil P
-all_from_each P (x ∷ xs) h = All-cons P x xs h.0 (all_from_each P xs h.1)
-
 -- two lists, element by element
 pub zip_from : {A B : Type 0} (R : A → B → Type 0) (xs : List A) (ys : List B) → length xs ≡ length ys → ((i : ℕ) (x : A) (y : B) → get_elem? xs i ≡ some x → get_elem? ys i ≡ some y → R x y) → AllZip R xs ys
 zip_from R [] [] long h = tt
@@ -220,12 +216,8 @@ one-or-none false t = omega arith
 pub count-map : {A B : Type 0} (g : A → B) (f : B → ℕ) (n : ℕ) (xs : List A) → total (λ b. only n (f b)) (map g xs) ≡ count_by (λ a. eqb (f (g a)) n) xs
 count-map g f n xs = is_count_by (λ (l : List _). total (λ b. only n (f b)) (map g l)) (λ a. eqb (f (g a)) n) refl (λ y ys. one-or-none (eqb (f (g y)) n) (total (λ b. only n (f b)) (map g ys))) xs
 
-range-next : (a n : ℕ) → range_with_len a (suc n) ≡ range_with_len a n ++ (a + n) ∷ []
-range-next a zero = let e : a ≡ a + 0 = omega arith in ap (λ k. k ∷ []) e
-range-next a (suc n) = let e : a + 1 + n ≡ a + suc n = omega arith in ap (λ (l : List ℕ). a ∷ l) (range-next (a + 1) n ∙ ap (λ k. range_with_len (a + 1) n ++ k ∷ []) e)
-
 pub range-more : (n : ℕ) → range_with_len 0 (n + 1) ≡ range_with_len 0 n ++ n ∷ []
-range-more n = let e : n + 1 ≡ suc n = omega arith in let z : 0 + n ≡ n = omega arith in ap (range_with_len 0) e ∙ (range-next 0 n ∙ ap (λ k. range_with_len 0 n ++ k ∷ []) z)
+range-more n = let e : n + 1 ≡ suc n = omega arith in let z : 0 + n ≡ n = omega arith in ap (range_with_len 0) e ∙ range_more 0 n n z
 
 module _ {N X : Type 0} where
   pub stamps_rise : (a : ℕ) (ms : List (LogEntry N X)) → Stamped a ms → Rises a (log_stamps ms)

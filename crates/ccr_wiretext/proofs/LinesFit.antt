@@ -2,6 +2,7 @@
 use Rattle.std.proofs.Common.{◌≡◌, ℕ, ◌<◌, Bool, true, false, List, [], ◌∷◌, ◌++◌, length, Option, Some, inl, inr, refl, sym, ap, subst, arith, append_assoc, append-nil}
 use Rattle.std.specs.Prelude.{◌==◌, ◌&&◌, not}
 use Rattle.std.proofs.lemmas.Bool.{and_parts}
+use Rattle.std.proofs.lemmas.List.{map_push}
 use Rattle.ccr_base.specs.declared.handlers.Action.{Action}
 use Rattle.ccr_base.specs.declared.handlers.Action.TheVariants as actions
 use Rattle.ccr_base.specs.declared.handlers.Expr.{Expr}
@@ -163,8 +164,7 @@ pub causes_fit : (draft : Declared) (handlers : ℕ) → Known draft.parts handl
 causes_fit draft handlers known causes words said = causes_go draft handlers known [] causes words refl said
 
 ports_push : (found : List Slot) (slot : Slot) → slot_ports (found ++ slot ∷ []) ≡ slot_ports found ++ slot.port ∷ []
-ports_push [] slot = refl
-ports_push (other ∷ found) slot = ap (λ (t : List ℕ). other.port ∷ t) (ports_push found slot)
+ports_push found slot = map_push (λ (s : Slot). s.port) found slot
 
 slots_fit : (draft : Declared) (handlers : ℕ) → Known draft.parts handlers draft.names → (found slots : List Slot) (words : Words) → are_apart (slot_ports found) ≡ true → IsSlots draft found slots words
     → Each (SlotFit (length draft.parts.ports)) slots × (are_apart (slot_ports (found ++ slots)) ≡ true)

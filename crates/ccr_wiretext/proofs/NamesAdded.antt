@@ -2,6 +2,7 @@
 use Rattle.std.proofs.Common.{◌≡◌, ℕ, ◌+◌, ◌≤◌, false, List, [], ◌∷◌, ◌++◌, length, map, refl, sym, ap, subst, ◌∙◌, arith, append_assoc, append-nil}
 use Rattle.std.specs.Prelude.{sum, flat_map}
 use Rattle.std.proofs.lemmas.List.Sums.{sum_by-append}
+use Rattle.std.proofs.lemmas.List.{map_push}
 use Rattle.ccr_base.proofs.Lists.{flat_push}
 use Rattle.ccr_wiring.specs.declared.parts.Parts.{Parts}
 use Rattle.ccr_wiring.specs.declared.parts.SetPart.{SetPart}
@@ -25,15 +26,11 @@ use Rattle.ccr_wiretext.proofs.LinesFit.{Known}
 
 -- ---- one more of a list
 
-map_snoc : {X Y : Type 0} (f : X → Y) (xs : List X) (x : X) → map f (xs ++ x ∷ []) ≡ map f xs ++ f x ∷ []
-map_snoc f [] x = refl
-map_snoc {X} {Y} f (y ∷ ys) x = ap (λ (t : List Y). f y ∷ t) (map_snoc f ys x)
-
 pub sum_push : {X : Type 0} (f : X → ℕ) (xs : List X) (x : X) → sum (map f (xs ++ x ∷ [])) ≡ sum (map f xs) + f x
 sum_push f xs x =
     let split : sum (map f xs ++ f x ∷ []) ≡ sum (map f xs) + sum (f x ∷ []) = sum_by-append (λ n. n) (map f xs) (f x ∷ []) in
     let one : sum (f x ∷ []) ≡ f x = omega arith in
-    rw (map_snoc f xs x) (omega (arith, split, one))
+    rw (map_push f xs x) (omega (arith, split, one))
 
 -- what is there stays there
 kind_more : (old new : Parts) (h i : ℕ) → length old.queues ≤ length new.queues → length old.ports ≤ length new.ports → length old.causes ≤ length new.causes → h ≤ i → (what : Named) → KindFit old h what → KindFit new i what
@@ -132,7 +129,7 @@ pub queue_adds : (parts : Parts) (names : Naming) (part : QueuePart) (what : Nam
 queue_adds parts names part what new declared =
     let more : List (List ℕ) = map (λ (part : QueuePart). part.name) (parts.queues ++ part ∷ []) in
     let here : Adds names part.name what (queue_names parts) more =
-    adds_to names part.name what (queue_names parts) (queue_names parts ++ part.name ∷ []) more (adds_here names part.name what new (queue_names parts)) (sym (map_snoc (λ (part : QueuePart). part.name) parts.queues part)) in
+    adds_to names part.name what (queue_names parts) (queue_names parts ++ part.name ∷ []) more (adds_here names part.name what new (queue_names parts)) (sym (map_push (λ (part : QueuePart). part.name) parts.queues part)) in
     adds_all names part.name what (declared_names parts) (declared_names (record parts { queues = parts.queues ++ part ∷ [] }))
     (before_sets parts names part.name what (queue_names parts ++ parts.ports) (more ++ parts.ports) (adds_before names part.name what (queue_names parts) more parts.ports here)) declared
 
@@ -149,7 +146,7 @@ pub set_adds : (parts : Parts) (names : Naming) (part : SetPart) (what : Named) 
 set_adds parts names part what new declared =
     let more : List (List ℕ) = map (λ (part : SetPart). part.name) (parts.sets ++ part ∷ []) in
     let here : Adds names part.name what (to_sets parts) (to_ports parts ++ more) =
-    adds_to names part.name what (to_sets parts) (to_sets parts ++ part.name ∷ []) (to_ports parts ++ more) (adds_here names part.name what new (to_sets parts)) (behind (to_ports parts) (set_names parts) part.name more (map_snoc (λ (part : SetPart). part.name) parts.sets part)) in
+    adds_to names part.name what (to_sets parts) (to_sets parts ++ part.name ∷ []) (to_ports parts ++ more) (adds_here names part.name what new (to_sets parts)) (behind (to_ports parts) (set_names parts) part.name more (map_push (λ (part : SetPart). part.name) parts.sets part)) in
     adds_all names part.name what (declared_names parts) (declared_names (record parts { sets = parts.sets ++ part ∷ [] }))
     (before_causes parts names part.name what (to_sets parts) (to_ports parts ++ more) here) declared
 
@@ -158,7 +155,7 @@ pub cause_adds : (parts : Parts) (names : Naming) (part : CausePart) (what : Nam
 cause_adds parts names part what new declared =
     let more : List (List ℕ) = map (λ (part : CausePart). part.name) (parts.causes ++ part ∷ []) in
     let here : Adds names part.name what (to_causes parts) (to_sets parts ++ more) =
-    adds_to names part.name what (to_causes parts) (to_causes parts ++ part.name ∷ []) (to_sets parts ++ more) (adds_here names part.name what new (to_causes parts)) (behind (to_sets parts) (cause_names parts) part.name more (map_snoc (λ (part : CausePart). part.name) parts.causes part)) in
+    adds_to names part.name what (to_causes parts) (to_causes parts ++ part.name ∷ []) (to_sets parts ++ more) (adds_here names part.name what new (to_causes parts)) (behind (to_sets parts) (cause_names parts) part.name more (map_push (λ (part : CausePart). part.name) parts.causes part)) in
     adds_all names part.name what (declared_names parts) (declared_names (record parts { causes = parts.causes ++ part ∷ [] }))
     (before_handlers parts names part.name what (to_causes parts) (to_sets parts ++ more) here) declared
 
@@ -167,7 +164,7 @@ pub handler_adds : (parts : Parts) (names : Naming) (part : HandlerPart) (what :
 handler_adds parts names part what new declared =
     let more : List (List ℕ) = map (λ (part : HandlerPart). part.name) (parts.handlers ++ part ∷ []) in
     let here : Adds names part.name what (to_handlers parts) (to_causes parts ++ more) =
-    adds_to names part.name what (to_handlers parts) (to_handlers parts ++ part.name ∷ []) (to_causes parts ++ more) (adds_here names part.name what new (to_handlers parts)) (behind (to_causes parts) (handler_names parts) part.name more (map_snoc (λ (part : HandlerPart). part.name) parts.handlers part)) in
+    adds_to names part.name what (to_handlers parts) (to_handlers parts ++ part.name ∷ []) (to_causes parts ++ more) (adds_here names part.name what new (to_handlers parts)) (behind (to_causes parts) (handler_names parts) part.name more (map_push (λ (part : HandlerPart). part.name) parts.handlers part)) in
     adds_all names part.name what (declared_names parts) (declared_names (record parts { handlers = parts.handlers ++ part ∷ [] }))
     (before_firings parts names part.name what (to_handlers parts) (to_causes parts ++ more) here) declared
 
@@ -189,7 +186,7 @@ arbiter_adds parts names part name what one new declared =
     (flat_push arbiter_names parts.arbiters part ∙ ap (λ (v : List (List ℕ)). flat_map arbiter_names parts.arbiters ++ v) one) new declared
 
 names_grow : (part : ArbiterPart) (branch : BranchPart) → is_receive part.kind ≡ false → arbiter_names (record part { branches = part.branches ++ branch ∷ [] }) ≡ arbiter_names part ++ branch.name ∷ []
-names_grow part branch kind = rw (kind, map_snoc (λ (branch : BranchPart). branch.name) part.branches branch) refl
+names_grow part branch kind = rw (kind, map_push (λ (branch : BranchPart). branch.name) part.branches branch) refl
 
 -- a branch more of an open arbiter
 pub branch_adds : (parts : Parts) (names : Naming) (part : ArbiterPart) (branch : BranchPart) (what : Named) → is_receive part.kind ≡ false → IsNew names branch.name → NamesApart names (declared_names (whole parts (blocks.Arbiter part)))
@@ -207,7 +204,7 @@ poster_adds parts names part what new declared =
     let more : List (List ℕ) = map (λ (part : PosterPart). part.name) (parts.posters ++ part ∷ []) in
     let some : List (List ℕ) = to_firings parts ++ poster_names parts in
     adds_all names part.name what (declared_names parts) (declared_names (record parts { posters = parts.posters ++ part ∷ [] }))
-    (adds_to names part.name what some (some ++ part.name ∷ []) (to_firings parts ++ more) (adds_here names part.name what new some) (behind (to_firings parts) (poster_names parts) part.name more (map_snoc (λ (part : PosterPart). part.name) parts.posters part))) declared
+    (adds_to names part.name what some (some ++ part.name ∷ []) (to_firings parts ++ more) (adds_here names part.name what new some) (behind (to_firings parts) (poster_names parts) part.name more (map_push (λ (part : PosterPart). part.name) parts.posters part))) declared
 
 -- ---- the names when the last part changes and keeps its name
 

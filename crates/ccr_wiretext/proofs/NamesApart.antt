@@ -4,6 +4,7 @@ use Rattle.std.specs.Str.{bytes_eq}
 use Rattle.std.proofs.lemmas.Slice.Eq.{bytes_eq-Decides}
 use Rattle.ccr_text.specs.Words.{is_name_of}
 use Rattle.ccr_text.specs.Names.{meaning_of}
+use Rattle.ccr_text.proofs.Meanings.{meaning_none}
 use Rattle.ccr_wiring.specs.Names.{has_name, has_repeated}
 use Rattle.ccr_wiretext.specs.declared.named.Named.{Named}
 use Rattle.ccr_wiretext.specs.Names.{Naming}
@@ -32,25 +33,12 @@ pub record NamesApart (names : Naming) (declared : List (List ℕ)) : Type 0 whe
   pub formed : Each (λ name. is_name_of name ≡ true) declared
   pub fresh : (name : List ℕ) → meaning_of names name ≡ None → has_name declared name ≡ false
 
-named_none : (names : Naming) (name word : List ℕ) (what : Named) → meaning_of (names ++ (name, what) ∷ []) word ≡ None → (meaning_of names word ≡ None) × (bytes_eq word name ≡ false)
-named_none [] name word what e = (refl, by (bytes_eq word name) e)
-  where
-    by : (t : Bool) → cond t (Some what) None ≡ None → t ≡ false
-    by true h = absurd cc
-    by false h = refl
-named_none (entry ∷ names) name word what e = by (bytes_eq word entry.0) e (named_none names name word what)
-  where
-    by : (t : Bool) → cond t (Some entry.1) (meaning_of (names ++ (name, what) ∷ []) word) ≡ None → (meaning_of (names ++ (name, what) ∷ []) word ≡ None → (meaning_of names word ≡ None) × (bytes_eq word name ≡ false))
-        → (cond t (Some entry.1) (meaning_of names word) ≡ None) × (bytes_eq word name ≡ false)
-    by true h next = absurd cc
-    by false h next = next h
-
 -- one name more, at its index among the names of the parts
 pub name_added : (names : Naming) (xs ys : List (List ℕ)) (name : List ℕ) (what : Named) → NamesApart names (xs ++ ys) → IsNew names name → NamesApart (names ++ (name, what) ∷ []) (xs ++ name ∷ ys)
 name_added names xs ys name what apart new = record {
   apart = repeated_insert xs ys name apart.apart (apart.fresh name new.new);
   formed = each_insert (λ name. is_name_of name ≡ true) xs ys name apart.formed new.formed;
-  fresh = λ word none. let parts = named_none names name word what none in none_inserted (λ other. bytes_eq other word) xs ys name (apart.fresh word parts.0) (differ_back word name parts.1);
+  fresh = λ word none. let parts = meaning_none names name word what none in none_inserted (λ other. bytes_eq other word) xs ys name (apart.fresh word parts.0) (differ_back word name parts.1);
 }
 
 -- what each name stands for

@@ -1,16 +1,17 @@
 -- A post that one scan finds is what the reader of words says.
-use Rattle.std.proofs.Common.{◌≡◌, ◌≢◌, ℕ, ◌+◌, ◌<◌, ◌^◌, Bool, true, false, cond, List, [], ◌∷◌, ◌++◌, length, Option, Some, None, Ok, ◌⊎◌, inl, inr, refl, sym, ap, subst, ◌∙◌, arith}
-use Rattle.std.specs.Prelude.{◌==◌, ◌&&◌, not, nat_lt, codes}
-use Rattle.std.specs.List.{list_all, join_with_byte}
+use Rattle.std.proofs.Common.{◌≡◌, ◌≢◌, ℕ, ◌+◌, ◌<◌, Bool, true, false, cond, List, [], ◌∷◌, ◌++◌, length, Option, Some, None, Ok, ◌⊎◌, inl, inr, refl, sym, ap, subst, ◌∙◌, arith}
+use Rattle.std.specs.Prelude.{◌==◌, nat_lt, codes}
+use Rattle.std.specs.List.{list_all}
 use Rattle.std.specs.Char.{is_ascii_digit}
 use Rattle.std.specs.Option.{option_map}
 use Rattle.std.proofs.lemmas.Bool.Decides.{nat_tests}
-use Rattle.std.proofs.lemmas.List.Splits.{join_with_byte-slice_split, length-slice_split}
-use Rattle.ccr_text.specs.Words.{is_digits, is_graphic, number_of, value_after, words_of, is_clean}
+use Rattle.ccr_text.specs.Words.{is_graphic, number_of, words_of, is_clean}
 use Rattle.ccr_text.specs.Lines.{split_text, first_line}
 use Rattle.ccr_text.specs.Exact.{exact_number_of, number_first, parts, where_spelled}
 use Rattle.ccr_text.proofs.Digits.{digit_graphic}
 use Rattle.ccr_text.proofs.FirstLine.{IsTaken, alone, taken_more, taken_feed}
+use Rattle.ccr_text.proofs.Parts.{cut_at}
+use Rattle.ccr_text.proofs.Decimals.{digits_alone}
 use Rattle.ccr_wiring.specs.declared.parts.PosterPart.{PosterPart}
 use Rattle.ccr_wiretext.specs.declared.draft.Block.TheVariants as blocks
 use Rattle.ccr_wiretext.specs.declared.keyword.Keyword.TheVariants as keywords
@@ -24,25 +25,9 @@ use Rattle.ccr_wiretext.specs.Blocks.{apart, line_in, poster_line}
 use Rattle.ccr_wiretext.specs.Scanning.{MayPost, IsLineTaken}
 use Rattle.ccr_wiretext.specs.Reading.{after_all, after_words}
 use Rattle.ccr_wiretext.proofs.ValuesRead.{value_in_read}
-use Rattle.std.proofs.lemmas.Bool.{and_parts as both}
-use Rattle.ccr_base.proofs.Lists.{length_behind}
-use Rattle.ccr_base.proofs.Booleans.{not_true}
+use Rattle.ccr_base.proofs.Lists.{length_behind, all_weaker}
 
 -- ---- the number before the LF
-
-parts_some : (rest : List ℕ) → (length (parts 10 rest) == 0) ≡ false
-parts_some rest = let some = length-slice_split (λ (b : ℕ). b == 10) rest in grind (arith, nat_tests, some)
-
--- what stands before the first LF, and what behind it
-split_at : (bytes word behind : List ℕ) → parts 10 bytes ≡ word ∷ parts 10 behind → bytes ≡ word ++ 10 ∷ behind
-split_at bytes word behind is = sym (join_with_byte-slice_split 10 bytes) ∙ (ap (join_with_byte 10) is ∙ by (parts 10 behind) refl)
-  where
-    by : (more : List (List ℕ)) → parts 10 behind ≡ more → join_with_byte 10 (word ∷ more) ≡ word ++ 10 ∷ behind
-    by [] none = absurd (let some : (length {A = List ℕ} [] == 0) ≡ false = ap (λ (ps : List (List ℕ)). length ps == 0) (sym none) ∙ parts_some behind in cc)
-    by (part ∷ more) are = ap (λ (back : List ℕ). word ++ 10 ∷ back) (ap (join_with_byte 10) (sym are) ∙ join_with_byte-slice_split 10 behind)
-
-abbrev none : Option (ℕ × List (List ℕ))
-none = None
 
 one_spelling : (word : List ℕ) (n m : ℕ) (test : Bool) → cond test (Some n) None ≡ Some m → n ≡ m
 one_spelling word n m true e = cc
@@ -72,20 +57,12 @@ first_is (word ∷ words) behind n e = by (exact_number_of word) refl e
 number_found : (bytes behind : List ℕ) (n : ℕ) → number_first (parts 10 bytes) ≡ Some (n, parts 10 behind) → (digits : List ℕ) × (bytes ≡ digits ++ 10 ∷ behind) × (number_of digits ≡ Some n)
 number_found bytes behind n e =
     let first = first_is (parts 10 bytes) (parts 10 behind) n e in
-    (first.0, split_at bytes first.0 behind first.1, first.2)
+    (first.0, cut_at 10 bytes first.0 behind first.1, first.2)
 
 -- ---- the words of the line
 
-digits_alone : (digits : List ℕ) (n : ℕ) → number_of digits ≡ Some n → ((length digits == 0) ≡ false) × (list_all is_ascii_digit digits ≡ true)
-digits_alone digits n e = by (is_digits digits) (nat_lt (value_after 0 digits) (2 ^ 64)) refl e
-  where
-    by : (a b : Bool) → is_digits digits ≡ a → cond (a && b) (Some (value_after 0 digits)) None ≡ Some n → ((length digits == 0) ≡ false) × (list_all is_ascii_digit digits ≡ true)
-    by true b is some = let parts = both (not (length digits == 0)) (list_all is_ascii_digit digits) is in (not_true (length digits == 0) parts.0, parts.1)
-    by false b is some = absurd cc
-
 pub digits_graphic : (digits : List ℕ) → list_all is_ascii_digit digits ≡ true → list_all is_graphic digits ≡ true
-digits_graphic [] e = refl
-digits_graphic (b ∷ digits) e = let parts = both (is_ascii_digit b) (list_all is_ascii_digit digits) e in rw (digit_graphic b parts.0, digits_graphic digits parts.1) refl
+digits_graphic digits e = all_weaker is_ascii_digit is_graphic digit_graphic digits e
 
 alone_is : (word : List ℕ) → (length word == 0) ≡ false → alone word ≡ word ∷ []
 alone_is word some = rw some refl

@@ -1,5 +1,5 @@
 -- A port that is referred to: what is read is in the grammar, and what is in the grammar is read.
-use Rattle.std.proofs.Common.{◌≡◌, ℕ, suc, ◌+◌, ◌<◌, Bool, true, false, List, [], ◌∷◌, ◌++◌, length, take, drop, Option, Some, None, Ok, ◌⊎◌, inl, inr, refl, sym, ap, subst, ◌∙◌, arith, length-append, add-one}
+use Rattle.std.proofs.Common.{◌≡◌, ℕ, ◌+◌, ◌<◌, Bool, true, false, List, [], ◌∷◌, ◌++◌, length, take, drop, Option, Some, None, Ok, ◌⊎◌, inl, inr, refl, sym, ap, subst, ◌∙◌, arith, length-append}
 use Rattle.std.specs.Prelude.{nat_lt, ◌==◌, ◌||◌}
 use Rattle.std.specs.Option.{option_and_then}
 use Rattle.std.specs.List.{list_any, position_or_len}
@@ -8,6 +8,7 @@ use Rattle.std.proofs.Math.Seq.{take-append_seam}
 use Rattle.ccr_base.proofs.Options.{some_then}
 use Rattle.ccr_base.proofs.Booleans.{chosen}
 use Rattle.ccr_base.specs.Lists.{has_number}
+use Rattle.ccr_base.proofs.Lists.{drop_past}
 use Rattle.ccr_text.specs.Names.{meaning_of}
 use Rattle.ccr_text.specs.Fields.{Words, or_code, word}
 use Rattle.ccr_wiretext.specs.Names.{as_port, as_set}
@@ -83,13 +84,6 @@ index_split word index e = elim (split_at word) [
   | inr split ↦ (split, (let h : Some (length split.set) ≡ Some index = sym (split_index word split) ∙ e in cc))
 ]
 
-drop_behind : (set name : List ℕ) → drop (suc (length set)) (set ++ 47 ∷ name) ≡ name
-drop_behind [] name = refl
-drop_behind (b ∷ set) name = drop_behind set name
-
-drop_front : (set name : List ℕ) → drop (length set + 1) (set ++ 47 ∷ name) ≡ name
-drop_front set name = rw (add-one (length set)) (drop_behind set name)
-
 port_is : (draft : Declared) (word : List ℕ) (n : ℕ) → port_of draft word ≡ Some n → IsPort draft word n
 port_is draft word n e = by (slash_index word) refl e
   where
@@ -103,7 +97,7 @@ port_is draft word n e = by (slash_index word) refl e
         let set = some_then (set_port draft (drop (index + 1) word)) (option_and_then as_set (meaning_of draft.names (take index word))) n h in
         let other = some_then (member draft set.0) (option_and_then as_port (meaning_of draft.names (drop (index + 1) word))) n set.2 in
         let front : take index word ≡ split.0.set = ap (λ k. take k word) split.1 ∙ ap (take (length split.0.set)) split.0.spelled ∙ take-append_seam split.0.set (47 ∷ split.0.name) in
-        let behind : drop (index + 1) word ≡ split.0.name = ap (λ k. drop (k + 1) word) split.1 ∙ ap (drop (length split.0.set + 1)) split.0.spelled ∙ drop_front split.0.set split.0.name in
+        let behind : drop (index + 1) word ≡ split.0.name = ap (λ k. drop (k + 1) word) split.1 ∙ ap (drop (length split.0.set + 1)) split.0.spelled ∙ drop_past split.0.set 47 split.0.name in
         elim (chosen (has_number (members_of draft set.0) other.0) (Some other.0) None (Some n) other.2) [
           | inl is ↦
               let same : other.0 ≡ n = (let s : Some other.0 ≡ Some n = is.1 in cc) in
@@ -123,7 +117,7 @@ port_is draft word n e = by (slash_index word) refl e
 port_means : (draft : Declared) (word : List ℕ) (n : ℕ) → IsPort draft word n → port_of draft word ≡ Some n
 port_means draft word n (inl (plain, refers)) = rw (plain_none word plain) refers
 port_means draft word n (inr said) =
-    rw (said.spelled, slash_at said.set said.name said.plain, take-append_seam said.set (47 ∷ said.name), drop_front said.set said.name, said.in_set, said.in_names, said.member) refl
+    rw (said.spelled, slash_at said.set said.name said.plain, take-append_seam said.set (47 ∷ said.name), drop_past said.set 47 said.name, said.in_set, said.in_names, said.member) refl
 
 -- PORT
 pub port_said : (draft : Declared) (words : Words) (x : ℕ × Words) → port draft words ≡ Ok x → (name : List ℕ) × (words ≡ name ∷ x.1) × IsPort draft name x.0

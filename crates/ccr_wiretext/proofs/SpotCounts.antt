@@ -1,8 +1,9 @@
 -- The ports that the spots name.
-use Rattle.std.proofs.Common.{◌≡◌, ℕ, ◌+◌, ◌<◌, ◌≤◌, Bool, true, false, List, [], ◌∷◌, ◌++◌, length, refl, sym, ap, ◌∙◌, arith}
-use Rattle.std.specs.Prelude.{◌==◌, ◌||◌, nat_lt}
+use Rattle.std.proofs.Common.{◌≡◌, ℕ, ◌+◌, ◌<◌, ◌≤◌, Bool, true, false, List, [], ◌∷◌, ◌++◌, length, refl, ap, ◌∙◌, arith, sym}
+use Rattle.std.specs.Prelude.{◌==◌, nat_lt}
 use Rattle.std.specs.List.{list_any}
 use Rattle.std.proofs.lemmas.Bool.Decides.{nat_tests}
+use Rattle.std.proofs.lemmas.List.Sums.{length-filter}
 use Rattle.ccr_wiring.proofs.Crowds.{times_append}
 use Rattle.ccr_wiring.specs.declared.parts.Parts.{Parts}
 use Rattle.ccr_wiring.specs.declared.parts.HandlerPart.{HandlerPart}
@@ -11,11 +12,12 @@ use Rattle.ccr_wiring.specs.declared.parts.ArbiterPart.{ArbiterPart}
 use Rattle.ccr_wiring.specs.declared.parts.Kind.{Kind}
 use Rattle.ccr_wiring.specs.Groups.{may_have}
 use Rattle.ccr_wiring.specs.Spots.{branch_named, branches_named, arbiters_named, times}
+use Rattle.ccr_wiring.proofs.DomainsOfOwnKind.{member_fails}
 use Rattle.ccr_wiretext.specs.Drafts.{Declared}
 use Rattle.ccr_wiretext.specs.Forms.{crowds}
-use Rattle.ccr_wiretext.proofs.Each.{neither}
 use Rattle.ccr_base.specs.Lists.{Each}
-use Rattle.ccr_base.proofs.Options.{get-before}
+use Rattle.ccr_base.proofs.Options.{get-left}
+use Rattle.ccr_base.proofs.Filters.{none_pass}
 use Rattle.ccr_wiretext.proofs.Fit.{BranchFit, ArbiterFit}
 
 -- the ports that an arbiter's spots name
@@ -26,7 +28,7 @@ arbiter_named parts part = branches_named parts part.branches
 
 branch_same : (parts : Parts) (part : HandlerPart) (branch : BranchPart) → branch.handler < length parts.handlers
     → branch_named (record parts { handlers = parts.handlers ++ part ∷ [] }) branch ≡ branch_named parts branch
-branch_same parts part branch less = rw (get-before parts.handlers part branch.handler less) refl
+branch_same parts part branch less = rw (get-left parts.handlers (part ∷ []) branch.handler less) refl
 
 branches_same : (queues ports : ℕ) (kind : Kind) (parts : Parts) (part : HandlerPart) (branches : List BranchPart)
     → Each (λ (branch : BranchPart). BranchFit queues (length parts.handlers) ports branch × (may_have kind branch.group ≡ true)) branches
@@ -50,22 +52,7 @@ abbrev pub Uncrowded : List ℕ → Type 0
 Uncrowded ports = (port : ℕ) → times port ports ≤ 16
 
 pub times_none : (port : ℕ) (ports : List ℕ) → list_any (λ other. other == port) ports ≡ false → times port ports ≡ 0
-times_none port [] none = refl
-times_none port (x ∷ xs) none =
-    let parts = neither (x == port) (list_any (λ other. other == port) xs) none in
-    let split : times port (x ∷ xs) ≡ times port (x ∷ []) + times port xs = times_append port (x ∷ []) xs in
-    let one : times port (x ∷ []) ≡ 0 = rw parts.0 refl in
-    let rest : times port xs ≡ 0 = times_none port xs parts.1 in
-    omega (arith, split, one, rest)
-
-pub among : (f : ℕ → Bool) (port : ℕ) (ports : List ℕ) → list_any f ports ≡ false → list_any (λ other. other == port) ports ≡ true → f port ≡ false
-among f port [] none is = absurd cc
-among f port (x ∷ xs) none is = by (x == port) refl is (neither (f x) (list_any f xs) none) (among f port xs)
-  where
-    by : (t : Bool) → (x == port) ≡ t → (t || list_any (λ other. other == port) xs) ≡ true → (f x ≡ false) × (list_any f xs ≡ false)
-        → (list_any f xs ≡ false → list_any (λ other. other == port) xs ≡ true → f port ≡ false) → f port ≡ false
-    by true e h parts next = let same : x ≡ port = grind (arith, nat_tests, e) in ap f (sym same) ∙ parts.0
-    by false e h parts next = next parts.1 h
+times_none port ports none = sym (length-filter (λ other. other == port) ports) ∙ ap length (none_pass (λ other. other == port) ports none)
 
 pub uncrowded_more : (draft : Declared) (branch : BranchPart) → Uncrowded draft.spotted → crowds draft branch ≡ false → Uncrowded (draft.spotted ++ branch_named draft.parts branch)
 unfolding crowds
@@ -75,5 +62,5 @@ uncrowded_more draft branch before none port = by (list_any (λ other. other == 
     new = branch_named draft.parts branch
 
     by : (t : Bool) → list_any (λ other. other == port) new ≡ t → times port (draft.spotted ++ new) ≤ 16
-    by true is = let test : nat_lt 16 (times port (draft.spotted ++ new)) ≡ false = among (λ p. nat_lt 16 (times p (draft.spotted ++ new))) port new none is in grind (arith, nat_tests, test)
+    by true is = let test : nat_lt 16 (times port (draft.spotted ++ new)) ≡ false = member_fails (λ p. nat_lt 16 (times p (draft.spotted ++ new))) new port is none in grind (arith, nat_tests, test)
     by false is = let none_new = times_none port new is in let sum = times_append port draft.spotted new in omega (arith, none_new, sum, before port)

@@ -1,7 +1,7 @@
 -- The word of a value: what is read is in the grammar, and what is in the grammar is read.
-use Rattle.std.proofs.Common.{◌≡◌, ◌≢◌, ℕ, zero, suc, ◌+◌, ◌^◌, ◌<◌, ◌≤◌, Bool, true, false, cond, List, [], ◌∷◌, ◌++◌, length, get_or, take, drop, Some, None, Ok, Err, inl, inr, refl, sym, ap, subst, ◌∙◌, arith, append_assoc, append-nil}
-use Rattle.std.specs.Prelude.{◌==◌, ◌&&◌, not, nat_lt, nat_le, decimal, flat_map}
-use Rattle.std.specs.List.{All, list_all, list_any, join_with_byte}
+use Rattle.std.proofs.Common.{◌≡◌, ℕ, ◌≤◌, Bool, true, false, cond, List, [], ◌∷◌, ◌++◌, length, Some, None, Ok, Err, inl, inr, refl, sym, ap, subst, ◌∙◌, arith, append_assoc, append-nil}
+use Rattle.std.specs.Prelude.{◌==◌, ◌&&◌, nat_lt, nat_le, decimal, flat_map}
+use Rattle.std.specs.List.{All, join_with_byte}
 use Rattle.std.specs.Char.{is_ascii_digit}
 use Rattle.std.specs.Str.{bytes_eq}
 use Rattle.std.proofs.lemmas.Bool.Decides.{nat_tests}
@@ -10,76 +10,29 @@ use Rattle.std.proofs.lemmas.List.Splits.{join_with_byte-slice_split}
 use Rattle.ccr_base.specs.Values.{value_of_numbers}
 use Rattle.ccr_base.proofs.Texts.{same_word}
 use Rattle.ccr_base.proofs.Booleans.{chosen}
-use Rattle.ccr_text.specs.Words.{value_after, is_digits, number_of}
+use Rattle.ccr_text.specs.Words.{number_of}
 use Rattle.ccr_text.specs.Fields.{or_code}
 use Rattle.ccr_wiretext.specs.Fields.{pieces, numbers_after, several, single, value_in}
 use Rattle.ccr_wiretext.specs.Grammar.{IsNumber, AreNumbers, IsList, IsOne, IsValueWord}
 use Rattle.ccr_text.specs.Exact.{value_word}
+use Rattle.ccr_text.proofs.Parts.{lacks, part_before, part_alone, lacks_tested}
+use Rattle.ccr_text.proofs.Decimals.{digits_alone}
 use Rattle.ccr_wiretext.specs.Values.{IsNumeral}
 use Rattle.ccr_wiretext.proofs.ReadTellsSteps.{bind_ok, ok_is, or_code_ok}
-use Rattle.ccr_wiretext.proofs.Each.{both, neither}
-
-abbrev is_comma : ℕ → Bool
-is_comma b = b == 44
-
--- ---- the first comma
-
-pieces_at_suc : (word : List ℕ) (i : ℕ) → ((k : ℕ) → k < i → get_or word k 0 ≢ 44) → i < length word → get_or word i 0 ≡ 44 → pieces word ≡ take i word ∷ pieces (drop (suc i) word)
-pieces_at_suc [] i none below here = absurd (omega arith)
-pieces_at_suc (b ∷ bytes) zero none below here = rw here refl
-pieces_at_suc (b ∷ bytes) (suc i) none below here =
-    let other : b ≢ 44 = none 0 (omega arith) in
-    let test : (b == 44) ≡ false = grind (arith, nat_tests, other) in
-    let rest : pieces bytes ≡ take i bytes ∷ pieces (drop (suc i) bytes) = pieces_at_suc bytes i (λ k h. none (suc k) (omega arith)) (omega arith) here in
-    rw (test, rest) refl
-
--- the first comma stands at i
-pub pieces_at : (word : List ℕ) (i : ℕ) → ((k : ℕ) → k < i → get_or word k 0 ≢ 44) → i < length word → get_or word i 0 ≡ 44 → pieces word ≡ take i word ∷ pieces (drop (i + 1) word)
-pieces_at word i none below here = let e : i + 1 ≡ suc i = omega arith in rw e (pieces_at_suc word i none below here)
-
--- there is none
-pub pieces_whole : (word : List ℕ) → ((k : ℕ) → k < length word → get_or word k 0 ≢ 44) → pieces word ≡ word ∷ []
-pieces_whole [] none = refl
-pieces_whole (b ∷ bytes) none =
-    let other : b ≢ 44 = none 0 (omega arith) in
-    let test : (b == 44) ≡ false = grind (arith, nat_tests, other) in
-    let rest : pieces bytes ≡ bytes ∷ [] = pieces_whole bytes (λ k h. none (suc k) (omega arith)) in
-    rw (test, rest) refl
 
 -- ---- pieces that are joined
 
-pieces_front : (front rest : List ℕ) → list_any is_comma front ≡ false → pieces (front ++ 44 ∷ rest) ≡ front ∷ pieces rest
-pieces_front [] rest none = refl
-pieces_front (b ∷ front) rest none = let parts = neither (is_comma b) (list_any is_comma front) none in rw (parts.0, pieces_front front rest parts.1) refl
-
-pieces_alone : (word : List ℕ) → list_any is_comma word ≡ false → pieces word ≡ word ∷ []
-pieces_alone [] none = refl
-pieces_alone (b ∷ word) none = let parts = neither (is_comma b) (list_any is_comma word) none in rw (parts.0, pieces_alone word parts.1) refl
-
-digit_no_comma : (b : ℕ) → is_ascii_digit b ≡ true → is_comma b ≡ false
-digit_no_comma b e = grind (arith, nat_tests, e)
-
-digits_no_comma : (digits : List ℕ) → list_all is_ascii_digit digits ≡ true → list_any is_comma digits ≡ false
-digits_no_comma [] e = refl
-digits_no_comma (b ∷ digits) e = let parts = both (is_ascii_digit b) (list_all is_ascii_digit digits) e in rw (digit_no_comma b parts.0, digits_no_comma digits parts.1) refl
-
-number_no_comma : (digits : List ℕ) (n : ℕ) → IsNumber digits n → list_any is_comma digits ≡ false
-number_no_comma digits n e = by (is_digits digits && nat_lt (value_after 0 digits) (2 ^ 64)) refl e
-  where
-    by : (t : Bool) → (is_digits digits && nat_lt (value_after 0 digits) (2 ^ 64)) ≡ t → cond t (Some (value_after 0 digits)) None ≡ Some n → list_any is_comma digits ≡ false
-    by true is h =
-        let parts = both (is_digits digits) (nat_lt (value_after 0 digits) (2 ^ 64)) is in
-        digits_no_comma digits (both (not (length digits == 0)) (list_all is_ascii_digit digits) parts.0).1
-    by false is h = absurd cc
+number_no_comma : (digits : List ℕ) (n : ℕ) → IsNumber digits n → lacks 44 digits ≡ true
+number_no_comma digits n e = lacks_tested is_ascii_digit 44 digits refl (digits_alone digits n e).1
 
 pieces_joined : (digits : List (List ℕ)) (value : List ℕ) → AreNumbers digits value → 1 ≤ length value → pieces (join_with_byte 44 digits) ≡ digits
 pieces_joined [] [] are some = absurd (omega arith)
 pieces_joined [] (n ∷ value) are some = absurd are
 pieces_joined (d ∷ digits) [] are some = absurd are
-pieces_joined (d ∷ []) (n ∷ value) are some = pieces_alone d (number_no_comma d n are.0)
+pieces_joined (d ∷ []) (n ∷ value) are some = part_alone 44 d (number_no_comma d n are.0)
 pieces_joined (d ∷ e ∷ digits) (n ∷ []) are some = absurd are.1
 pieces_joined (d ∷ e ∷ digits) (n ∷ m ∷ value) are some =
-    pieces_front d (join_with_byte 44 (e ∷ digits)) (number_no_comma d n are.0) ∙ ap (λ (v : List (List ℕ)). d ∷ v) (pieces_joined (e ∷ digits) (m ∷ value) are.1 (omega arith))
+    part_before 44 d (join_with_byte 44 (e ∷ digits)) (number_no_comma d n are.0) ∙ ap (λ (v : List (List ℕ)). d ∷ v) (pieces_joined (e ∷ digits) (m ∷ value) are.1 (omega arith))
 
 -- ---- numbers
 

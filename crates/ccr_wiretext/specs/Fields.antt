@@ -2,7 +2,6 @@
 -- and how one field is read behind another, are in ccr_text.
 use Rattle.std.specs.Prelude.{ℕ, List, [], ◌∷◌, ◌+◌, Option, ◌++◌, Some, None, Result, Ok, Err, ◌==◌, ◌&&◌, not, is_some, take, drop, position, if◌then◌else◌, codes}
 use Rattle.std.specs.Option.{option_and_then}
-use Rattle.std.specs.List.{slice_split}
 use Rattle.std.specs.Str.{bytes_eq}
 use Rattle.ccr_base.specs.Bounds.{last_index, most_arg}
 use Rattle.ccr_base.specs.declared.policies.Group.{Group}
@@ -12,6 +11,7 @@ use Rattle.ccr_base.specs.declared.handlers.Expr.TheVariants as exprs
 use Rattle.ccr_base.specs.Values.{value_of_numbers}
 use Rattle.ccr_base.specs.Lists.{has_number}
 use Rattle.ccr_text.specs.Words.{number_of, is_name_of}
+use Rattle.ccr_text.specs.Exact.{parts}
 use Rattle.ccr_text.specs.Names.{meaning_of}
 use Rattle.ccr_text.specs.Fields.{Words, ◌>>=◌, unless, or_code, word, number_within}
 use Rattle.ccr_wiretext.specs.declared.named.Named.{Named}
@@ -72,7 +72,7 @@ group words = do
 
 -- the pieces of a word between its commas
 abbrev pub pieces : List ℕ → List (List ℕ)
-pieces word = slice_split (λ b. b == 44) word
+pieces word = parts 44 word
 
 -- the numbers of the pieces, behind those that were found
 unfoldable pub numbers_after : List ℕ → List (List ℕ) → Result (List ℕ) ℕ

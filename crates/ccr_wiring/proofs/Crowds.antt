@@ -4,8 +4,9 @@ use Rattle.std.specs.Prelude.{nat_lt, ◌==◌}
 use Rattle.std.proofs.lemmas.Bool.Decides.{nat_tests}
 use Rattle.std.proofs.lemmas.List.{take-append-drop}
 use Rattle.std.proofs.lemmas.List.Sums.{count_by_more_yes, count_by_more_no, sum_by-append}
+use Rattle.std.proofs.lemmas.List.Folds.{list_any_at}
 use Rattle.ccr_wiring.specs.Spots.{times, has_crowded}
-use Rattle.ccr_wiring.proofs.Lists.{any_at, any_none}
+use Rattle.ccr_wiring.proofs.Lists.{any_none}
 
 -- how often a port stands in two lists
 pub times_append : (port : ℕ) (xs ys : List ℕ) → times port (xs ++ ys) ≡ times port xs + times port ys
@@ -26,7 +27,7 @@ pub crowd_found : (ports : List ℕ) (i : ℕ) → i < length ports → 16 ≤ t
 crowd_found ports i below often =
     let at = times_at ports i below in
     let test : nat_lt 16 (times (get_or ports i 0) ports) ≡ true = grind (arith, nat_tests) in
-    any_at (λ port. nat_lt 16 (times port ports)) ports i 0 below test
+    list_any_at (λ port. nat_lt 16 (times port ports)) ports i 0 below test
 
 -- no port stands more than 16 times
 pub crowd_none : (ports : List ℕ) → ((port : ℕ) → times port ports ≤ 16) → has_crowded ports ≡ false

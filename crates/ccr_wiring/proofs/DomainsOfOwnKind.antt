@@ -1,11 +1,12 @@
 -- The domain of a branch is the number of an arbiter of its own kind.
-use Rattle.std.proofs.Common.{◌≡◌, ℕ, zero, suc, ◌+◌, ◌≤◌, ◌⊎◌, inl, inr, min, Bool, true, false, List, [], ◌∷◌, ◌++◌, map, Option, Some, None, refl, ap, sym, subst, ◌∙◌, arith}
-use Rattle.std.specs.Prelude.{◌||◌, ◌==◌, not, nat_le, IsSomeAnd}
+use Rattle.std.proofs.Common.{◌≡◌, ℕ, suc, ◌+◌, ◌≤◌, min, Bool, true, false, List, [], ◌∷◌, Option, Some, None, refl, ap, sym, subst, ◌∙◌, arith, ◌-◌, ◌<◌, length}
+use Rattle.std.specs.Prelude.{◌||◌, ◌==◌, not, nat_le, IsSomeAnd, nat_lt}
 use Rattle.std.specs.List.{list_any, slice_get}
 use Rattle.std.specs.Option.{option_map, option_map_or}
 use Rattle.std.proofs.lemmas.Option.{slice_get-map}
 use Rattle.std.proofs.lemmas.Bool.Decides.{nat_tests}
 use Rattle.ccr_base.specs.Lists.{has_number}
+use Rattle.ccr_base.proofs.Options.{get-some}
 use Rattle.ccr_wiring.specs.declared.parts.ArbiterPart.{ArbiterPart}
 use Rattle.ccr_wiring.specs.declared.parts.BranchPart.{BranchPart}
 use Rattle.ccr_wiring.specs.declared.parts.DomainPart.{DomainPart}
@@ -15,38 +16,49 @@ use Rattle.ccr_wiring.specs.declared.parts.Parts.{Parts}
 use Rattle.ccr_wiring.specs.Domains.{least_with, domain_of}
 use Rattle.ccr_wiring.specs.Groups.{is_interleave}
 use Rattle.ccr_wiring.specs.References.{no_interleave, domain_is_dangling, has_dangling_domain}
-use Rattle.ccr_wiring.specs.Wirings.{Placement, placement, placements_from, in_domain}
+use Rattle.ccr_wiring.specs.Wirings.{Placement, placement, placements_from, in_domain, branches_before}
 use Rattle.ccr_wiring.proofs.Lists.{neither}
+use Rattle.ccr_wiring.proofs.Positions.{placement-here, placement-later}
 
--- the arbiter of a placement, by its index
-pub record ArbiterOf (first : ℕ) (arbiters : List ArbiterPart) (s : Placement) : Type 0 where
+-- the arbiter of a branch's placement, by its index, and where its branches stand among all
+pub record ArbiterOf (first : ℕ) (arbiters : List ArbiterPart) (branch : ℕ) (s : Placement) : Type 0 where
   pub index : ℕ
   pub arbiter : ArbiterPart
   pub number : s.domain ≡ first + index
   pub at : slice_get arbiters index ≡ Some arbiter
   pub kind : s.kind ≡ arbiter.kind
-
-here_or_later : (number : ℕ) (kind : Kind) (branches : List BranchPart) (rest : List Placement) (branch : ℕ) (s : Placement)
-    → slice_get (map (λ branch. record { domain = number; kind = kind; branch = branch }) branches ++ rest) branch ≡ Some s
-    → ((s.domain ≡ number) × (s.kind ≡ kind)) ⊎ ((later : ℕ) × (slice_get rest later ≡ Some s))
-here_or_later number kind [] rest branch s at = inr (branch, at)
-here_or_later number kind (part ∷ branches) rest zero s at = inl (cc, cc)
-here_or_later number kind (part ∷ branches) rest (suc branch) s at = here_or_later number kind branches rest branch s at
+  pub low : branches_before index arbiters ≤ branch
+  pub high : branch < branches_before index arbiters + length arbiter.branches
 
 -- each placement is one of an arbiter's
-pub placement_of_arbiter : (first : ℕ) (arbiters : List ArbiterPart) (branch : ℕ) (s : Placement) → slice_get (placements_from first arbiters) branch ≡ Some s → ArbiterOf first arbiters s
+pub placement_of_arbiter : (first : ℕ) (arbiters : List ArbiterPart) (branch : ℕ) (s : Placement) → slice_get (placements_from first arbiters) branch ≡ Some s → ArbiterOf first arbiters branch s
 placement_of_arbiter first [] branch s at = absurd (none_there at)
   where
     none_there : slice_get {X = Placement} [] branch ≡ Some s → ⊥
     none_there e = absurd cc
-placement_of_arbiter first (arbiter ∷ arbiters) branch s at = of_either (here_or_later first arbiter.kind arbiter.branches (placements_from (first + 1) arbiters) branch s at) (λ later is. placement_of_arbiter (first + 1) arbiters later s is)
+placement_of_arbiter first (arbiter ∷ arbiters) branch s at = by (nat_lt branch (length arbiter.branches)) refl (λ k later. placement_of_arbiter (first + 1) arbiters k s later)
   where
-    of_either : ((s.domain ≡ first) × (s.kind ≡ arbiter.kind)) ⊎ ((later : ℕ) × (slice_get (placements_from (first + 1) arbiters) later ≡ Some s))
-        → ((later : ℕ) → slice_get (placements_from (first + 1) arbiters) later ≡ Some s → ArbiterOf (first + 1) arbiters s) → ArbiterOf first (arbiter ∷ arbiters) s
-    of_either (inl here) others = record { index = 0; arbiter = arbiter; number = omega (arith, here.0); at = refl; kind = here.1 }
-    of_either (inr later) others =
-        let p = others later.0 later.1 in
-        record { index = suc p.index; arbiter = p.arbiter; number = omega (arith, p.number); at = p.at; kind = p.kind }
+    by : (c : Bool) → nat_lt branch (length arbiter.branches) ≡ c → ((k : ℕ) → slice_get (placements_from (first + 1) arbiters) k ≡ Some s → ArbiterOf (first + 1) arbiters k s) → ArbiterOf first (arbiter ∷ arbiters) branch s
+    by true e rest = record { index = 0; arbiter = arbiter; number = ap (λ (r : Placement). r.domain) is ∙ (let same : first ≡ first + 0 = omega arith in same); at = refl; kind = ap (λ (r : Placement). r.kind) is; low = omega arith; high = omega (arith, below) }
+      where
+        below : branch < length arbiter.branches
+        below = grind (arith, nat_tests, e)
+
+        found : (part : BranchPart) × (slice_get arbiter.branches branch ≡ Some part)
+        found = get-some arbiter.branches branch below
+
+        is : s ≡ record { domain = first; kind = arbiter.kind; branch = found.0 }
+        is = inside s _ (sym at ∙ placement-here first arbiter arbiters branch found.0 found.1)
+          where
+            inside : (x y : Placement) → Some x ≡ Some y → x ≡ y
+            inside x y same = cc
+    by false e rest =
+        let above : length arbiter.branches ≤ branch = grind (arith, nat_tests, e) in
+        let there = rest (branch - length arbiter.branches) (sym (placement-later first arbiter arbiters branch above) ∙ at) in
+        let number = there.number in
+        let low = there.low in
+        let high = there.high in
+        record { index = suc there.index; arbiter = there.arbiter; number = omega (arith, number); at = there.at; kind = there.kind; low = omega (arith, above, low); high = omega (arith, above, high) }
 
 pub no_less : (p : ℕ → Bool) (a b : ℕ) → p a ≡ false → p b ≡ false → p (min a b) ≡ false
 no_less p a b fails other = by_test (nat_le a b) refl

@@ -1,5 +1,5 @@
 -- Lists of spots, one for each number, and what they gain.
-use Rattle.std.proofs.Common.{◌≡◌, ◌∙◌, ℕ, zero, suc, ◌+◌, ◌<◌, ◌≤◌, Bool, true, false, List, [], ◌∷◌, ◌++◌, length, take, Option, None, Some, refl, ap, sym, arith, length-set, append_assoc, append-nil}
+use Rattle.std.proofs.Common.{◌≡◌, ◌∙◌, ℕ, zero, suc, ◌+◌, ◌<◌, ◌≤◌, Bool, true, false, List, [], ◌∷◌, ◌++◌, length, take, Option, None, Some, refl, ap, sym, arith, length-set, append_assoc, append-nil, drop, subst}
 use Rattle.std.specs.Prelude.{◌==◌, ◌||◌, ◌&&◌, not, if◌then◌else◌, slice_set}
 use Rattle.std.specs.List.{slice_get}
 use Rattle.std.proofs.Math.ListN.{get_or}
@@ -7,11 +7,13 @@ use Rattle.std.proofs.lemmas.Bool.Decides.{nat_tests}
 use Rattle.std.proofs.lemmas.Option.{slice_get-get_or}
 use Rattle.ccr_base.specs.declared.names.Spot.{Spot}
 use Rattle.ccr_base.specs.declared.patterns.Slot.{Slot}
-use Rattle.ccr_base.proofs.Booleans.{and_false, or_assoc}
+use Rattle.ccr_base.proofs.Booleans.{and_false}
 use Rattle.ccr_base.specs.Lists.{has_number, are_apart}
-use Rattle.ccr_base.proofs.Options.{some-below}
+use Rattle.ccr_base.proofs.Options.{some-below, parted}
+use Rattle.ccr_base.proofs.Lists.{any_more}
 use Rattle.ccr_wiring.specs.Repeats.{slot_ports}
 use Rattle.ccr_wiring.specs.Takers.{more_for, IsNoted}
+use Rattle.ccr_wiring.proofs.Apart.{not_before}
 
 -- one list in the place of another
 set_at : (lists : List (List Spot)) (k n : ℕ) (list : List Spot) → k < length lists → slice_get (slice_set lists k list) n ≡ (if k == n then Some list else slice_get lists n)
@@ -61,33 +63,13 @@ noted_or p q r spot old mid new both apart first second = record {
     of_tests true false apart = refl
     of_tests false b apart = refl
 
--- the ports up to one more
-any_more : (ports : List ℕ) (i port n : ℕ) → slice_get ports i ≡ Some port → has_number (take (suc i) ports) n ≡ has_number (take i ports) n || (port == n)
-any_more [] i port n there = grind (arith, there)
-any_more (other ∷ ports) zero port n there = grind (arith, there)
-any_more (other ∷ ports) (suc i) port n there = ap (λ b. (other == n) || b) (any_more ports i port n there) ∙ or_assoc (other == n) (has_number (take i ports) n) (port == n)
-
 -- a number that comes later isn't among those before it
 never_before : (ports : List ℕ) (i port : ℕ) → are_apart ports ≡ true → slice_get ports i ≡ Some port → has_number (take i ports) port ≡ false
-never_before [] i port apart there = grind (arith, there)
-never_before (other ∷ ports) zero port apart there = refl
-never_before (other ∷ ports) (suc i) port apart there = of_test (other == port) refl (never_before ports i port (grind (arith, apart)) there)
-  where
-    found : (ports : List ℕ) (i port : ℕ) → slice_get ports i ≡ Some port → has_number ports port ≡ true
-    found [] i port there = grind (arith, there)
-    found (other ∷ ports) zero port there = grind (arith, nat_tests, there)
-    found (other ∷ ports) (suc i) port there = let rest = found ports i port there in grind (arith, rest)
-
-    of_test : (b : Bool) → (other == port) ≡ b → has_number (take i ports) port ≡ false → b || has_number (take i ports) port ≡ false
-    of_test true same rest =
-        let one : other ≡ port = grind (arith, nat_tests, same) in
-        let among : has_number ports other ≡ true = ap (λ n. has_number ports n) one ∙ found ports i port there in
-        grind (arith, apart, among)
-    of_test false differs rest = rest
+never_before ports i port apart there = not_before (take i ports) port (drop (i + 1) ports) (subst (λ ns. are_apart ns ≡ true) (parted ports i port there) apart)
 
 pub slots_next : (ports : List ℕ) (i port : ℕ) (spot : Spot) (old mid new : List (List Spot)) → are_apart ports ≡ true → slice_get ports i ≡ Some port → IsNoted (has_number (take i ports)) spot old mid → IsNoted (λ n. port == n) spot mid new → IsNoted (has_number (take (suc i) ports)) spot old new
 slots_next ports i port spot old mid new apart there first second =
-    noted_or (has_number (take i ports)) (λ n. port == n) (has_number (take (suc i) ports)) spot old mid new (λ n. any_more ports i port n there) (λ n. once n (port == n) refl) first second
+    noted_or (has_number (take i ports)) (λ n. port == n) (has_number (take (suc i) ports)) spot old mid new (λ n. let on : suc i ≡ i + 1 = omega arith in ap (λ k. has_number (take k ports) n) on ∙ any_more (λ m. m == n) ports i port there) (λ n. once n (port == n) refl) first second
   where
     once : (n : ℕ) (b : Bool) → (port == n) ≡ b → has_number (take i ports) n && b ≡ false
     once n true same =

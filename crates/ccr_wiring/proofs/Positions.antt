@@ -2,7 +2,7 @@
 use Rattle.std.proofs.Common.{◌≡◌, ℕ, zero, suc, ◌+◌, ◌-◌, ◌≤◌, ◌<◌, inl, inr, List, [], ◌∷◌, ◌++◌, length, Some, refl, ap, sym, ◌∙◌, length-append, arith}
 use Rattle.std.specs.Option.{option_map, option_and_then}
 use Rattle.std.specs.List.{slice_get}
-use Rattle.std.proofs.lemmas.Option.{slice_get-map, slice_get_cases}
+use Rattle.std.proofs.lemmas.Option.{slice_get-map, slice_get_cases, slice_get_within}
 use Rattle.std.proofs.lemmas.List.{length-map}
 use Rattle.ccr_wiring.specs.declared.parts.ArbiterPart.{ArbiterPart}
 use Rattle.ccr_wiring.specs.declared.parts.BranchPart.{BranchPart}
@@ -12,11 +12,10 @@ use Rattle.ccr_wiring.specs.declared.placements.Position.{Position}
 use Rattle.ccr_wiring.specs.Domains.{domain_of}
 use Rattle.ccr_wiring.specs.Placements.{positions_in, positions_from, positions, placement_among, placement_at}
 use Rattle.ccr_wiring.specs.Wirings.{placement, placements_of, placements_from, in_domain}
+use Rattle.ccr_base.proofs.Options.{get-left}
 
 pub get-front : {X : Type 0} (xs ys : List X) (k : ℕ) (x : X) → slice_get xs k ≡ Some x → slice_get (xs ++ ys) k ≡ Some x
-get-front [] ys k x is = absurd cc
-get-front (y ∷ xs) ys zero x is = is
-get-front (y ∷ xs) ys (suc k) x is = get-front xs ys k x is
+get-front xs ys k x is = get-left xs ys k (slice_get_within xs k x is) ∙ is
 
 pub get-back : {X : Type 0} (xs ys : List X) (k : ℕ) → length xs ≤ k → slice_get (xs ++ ys) k ≡ slice_get ys (k - length xs)
 get-back [] ys k past = let e : k - 0 ≡ k = omega arith in rw e refl

@@ -1,13 +1,14 @@
 -- Names that stand twice.
 use Rattle.std.proofs.Common.{◌≡◌, Bool, true, false, List, [], ◌∷◌, ◌++◌, map, length, get_or, drop, ℕ, suc, ◌+◌, ◌<◌, Bor, refl, ap, sym, ◌∙◌, drop-cons, arith}
 use Rattle.std.proofs.lemmas.List.{map-append}
-use Rattle.std.specs.Prelude.{◌||◌, not}
+use Rattle.std.specs.Prelude.{◌||◌}
 use Rattle.std.specs.List.{list_any}
 use Rattle.std.specs.Str.{bytes_eq}
 use Rattle.std.proofs.lemmas.List.Folds.{list_any-append}
 use Rattle.std.proofs.Math.Bool.{or-false}
 use Rattle.std.proofs.lemmas.Bool.{or_parts as neither}
 use Rattle.ccr_wiring.specs.Names.{has_name, has_repeated}
+use Rattle.ccr_base.proofs.Lists.{list_any-map}
 
 -- whether the name is one of those that were seen
 abbrev pub was_seen : List (List ℕ) → List ℕ → Bool
@@ -64,24 +65,12 @@ apart_left (x ∷ xs) ys e =
     let lacks = neither (has_name xs x) (has_name ys x) (sym (list_any-append (λ other. bytes_eq other x) xs ys) ∙ parts.0) in
     rw (lacks.0, apart_left xs ys parts.1) refl
 
-any_mapped : (test : List ℕ → Bool) (keys : List (Bor (List ℕ))) → list_any test (map (λ key. key.now) keys) ≡ list_any (λ key. test key.now) keys
-any_mapped test [] = refl
-any_mapped test (key ∷ keys) = ap (λ b. test key.now || b) (any_mapped test keys)
-
-pub not_false : (b : Bool) → false ≡ not b → b ≡ true
-not_false true e = refl
-not_false false e = absurd cc
-
-pub not_true : (b : Bool) → true ≡ not b → b ≡ false
-not_true false e = refl
-not_true true e = absurd cc
-
 module _ (keys names : List (Bor (List ℕ))) (i : ℕ) (d : Bor (List ℕ)) (below : i < length names)
     (so_far : repeated_after (map (λ key. key.now) keys) (map (λ name. name.now) (drop i names)) ≡ has_repeated (map (λ name. name.now) names)) where
   opened : repeated_after (map (λ key. key.now) keys) (map (λ name. name.now) (drop i names))
       ≡ (list_any (λ key. bytes_eq (get_or names i d).now key.now) keys || repeated_after (map (λ key. key.now) keys ++ (get_or names i d).now ∷ []) (map (λ name. name.now) (drop (suc i) names)))
   opened = ap (λ (rest : List (Bor (List ℕ))). repeated_after (map (λ key. key.now) keys) (map (λ name. name.now) rest)) (drop-cons names i d below)
-      ∙ ap (λ b. b || repeated_after (map (λ key. key.now) keys ++ (get_or names i d).now ∷ []) (map (λ name. name.now) (drop (suc i) names))) (any_mapped (bytes_eq (get_or names i d).now) keys)
+      ∙ ap (λ b. b || repeated_after (map (λ key. key.now) keys ++ (get_or names i d).now ∷ []) (map (λ name. name.now) (drop (suc i) names))) (list_any-map (bytes_eq (get_or names i d).now) (λ (key : Bor (List ℕ)). key.now) keys)
 
   -- a name that was seen stands twice
   pub seen_again : list_any (λ key. bytes_eq (get_or names i d).now key.now) keys ≡ true → true ≡ has_repeated (map (λ name. name.now) names)

@@ -12,8 +12,9 @@ use Rattle.ccr_base.specs.declared.messages.Sent.{Sent}
 use Rattle.ccr_base.specs.declared.patterns.Pattern.{Pattern}
 use Rattle.ccr_base.specs.declared.patterns.Pattern.TheVariants.{Slots, Gather}
 use Rattle.ccr_base.specs.declared.patterns.Slot.{Slot}
-use Rattle.ccr_base.proofs.Booleans.{not_refuted}
+use Rattle.ccr_base.proofs.Booleans.{not_refuted, or_left}
 use Rattle.ccr_base.specs.Lists.{are_apart}
+use Rattle.ccr_base.proofs.Lists.{none_narrower, none_at, list_any-map}
 use Rattle.ccr_wiring.specs.declared.parts.ArbiterPart.{ArbiterPart}
 use Rattle.ccr_wiring.specs.declared.parts.BranchPart.{BranchPart}
 use Rattle.ccr_wiring.specs.declared.parts.CausePart.{CausePart}
@@ -28,7 +29,7 @@ use Rattle.ccr_wiring.specs.Repeats.{slot_ports, names_ports_once, branch_repeat
 use Rattle.ccr_wiring.specs.Limits.{is_outside, slot_is_outside, pattern_is_outside, branch_is_outside, has_branches_above, has_posts_above, has_outside}
 use Rattle.ccr_wiring.specs.Spots.{pattern_ports, times, named_ports, has_crowded}
 use Rattle.ccr_wiring.specs.Valid.{IsValid, IsSound, IsSmall, IsSlotFilled, IsPatternFilled, IsActionNamed, IsPostNamed}
-use Rattle.ccr_wiring.proofs.Lists.{neither, none_at}
+use Rattle.ccr_wiring.proofs.Lists.{neither}
 use Rattle.ccr_wiring.proofs.SpotsAreListed.{length-placements}
 use Rattle.ccr_wiring.proofs.DomainsOfOwnKind.{kept_domain}
 use Rattle.ccr_wiring.proofs.Validity.{no_codes, within, few_branches, few_actions}
@@ -39,8 +40,7 @@ below count number none = grind (arith, nat_tests, none)
 
 -- tests of the branches of arbiters are tests of the placements
 placement_any : (q : Kind → BranchPart → Bool) (number : ℕ) (kind : Kind) (branches : List BranchPart) → list_any (λ (s : Placement). q s.kind s.branch) (map (λ branch. record { domain = number; kind = kind; branch = branch }) branches) ≡ list_any (q kind) branches
-placement_any q number kind [] = refl
-placement_any q number kind (branch ∷ branches) = ap (λ b. q kind branch || b) (placement_any q number kind branches)
+placement_any q number kind branches = list_any-map (λ (s : Placement). q s.kind s.branch) (λ branch. record { domain = number; kind = kind; branch = branch }) branches
 
 placements_any : (q : Kind → BranchPart → Bool) (number : ℕ) (arbiters : List ArbiterPart) → list_any (λ (s : Placement). q s.kind s.branch) (placements_from number arbiters) ≡ list_any (λ (arbiter : ArbiterPart). list_any (q arbiter.kind) arbiter.branches) arbiters
 placements_any q number [] = refl
@@ -51,19 +51,11 @@ placements_any q number (arbiter ∷ arbiters) =
 
 -- a domain changes neither kind nor branch
 domain_any : (q : Kind → BranchPart → Bool) (domains : List DomainPart) (ss : List Placement) → list_any (λ (s : Placement). q s.kind s.branch) (map (in_domain domains) ss) ≡ list_any (λ (s : Placement). q s.kind s.branch) ss
-domain_any q domains [] = refl
-domain_any q domains (s ∷ ss) = ap (λ b. q s.kind s.branch || b) (domain_any q domains ss)
+domain_any q domains ss = list_any-map (λ (s : Placement). q s.kind s.branch) (in_domain domains) ss
 
 -- what no branch passes, the branch of no placement passes
 placement_none : (q : Kind → BranchPart → Bool) (parts : Parts) → list_any (λ (arbiter : ArbiterPart). list_any (q arbiter.kind) arbiter.branches) parts.arbiters ≡ false → (branch : ℕ) (s : Placement) → placement parts branch ≡ Some s → q s.kind s.branch ≡ false
 placement_none q parts none branch s at = none_at (λ (s : Placement). q s.kind s.branch) (placements parts) branch s (domain_any q parts.domains (placements_from 0 parts.arbiters) ∙ (placements_any q 0 parts.arbiters ∙ none)) at
-
--- where none passes either test, none passes the first
-any_first : {X : Type 0} (p q : X → Bool) (xs : List X) → list_any (λ x. p x || q x) xs ≡ false → list_any p xs ≡ false
-any_first p q [] none = refl
-any_first p q (x ∷ xs) none =
-    let both = neither (p x || q x) (list_any (λ x. p x || q x) xs) none in
-    ap (λ b. b || list_any p xs) (neither (p x) (q x) both.0).0 ∙ any_first p q xs both.1
 
 record Named (parts : Parts) : Type 0 where
   causes : has_dangling_cause parts ≡ false
@@ -260,7 +252,7 @@ sound parts valid =
       apart = λ branch s at. not_refuted (names_ports_once s.branch.pattern) (placement_none (λ kind branch. branch_repeats branch) parts (neither (has_repeating_set parts) (has_repeating_arbiter parts) twice.0).1 branch s at);
       queues = λ branch s at. (branch_named parts s.branch (branches branch s at)).queue;
       handlers = λ branch s at. (branch_named parts s.branch (branches branch s at)).handler;
-      groups = λ branch s at. not_refuted (may_have s.kind s.branch.group) (placement_none (λ kind branch. not (may_have kind branch.group)) parts (any_first has_strange_group _ parts.arbiters none.groups) branch s at);
+      groups = λ branch s at. not_refuted (may_have s.kind s.branch.group) (placement_none (λ kind branch. not (may_have kind branch.group)) parts (none_narrower has_strange_group _ parts.arbiters (λ x is. or_left (has_strange_group x) _ is) none.groups) branch s at);
       pattern_ports = λ branch s index port at there. pattern_port parts s.branch.pattern index port (branch_named parts s.branch (branches branch s at)).pattern there;
       patterns = λ branch s at. pattern_filled s.branch.pattern (placement_none (λ kind branch. branch_is_outside branch) parts inside.arbiters branch s at);
       actions = λ handler index action at. actions_named parts handler index action (slice_get parts.handlers handler) refl numbers.handlers at;

@@ -5,6 +5,7 @@ use Rattle.std.proofs.lemmas.List.Concat.{flat_map-cons}
 use Rattle.std.proofs.lemmas.List.Sums.{sum_by-cons}
 use Rattle.ccr_base.specs.declared.names.Spot.{Spot}
 use Rattle.ccr_base.specs.declared.names.Spot.TheVariants.{Branch}
+use Rattle.ccr_base.proofs.Lists.{map_twice}
 use Rattle.ccr_wiring.specs.declared.parts.ArbiterPart.{ArbiterPart}
 use Rattle.ccr_wiring.specs.declared.parts.BranchPart.{BranchPart}
 use Rattle.ccr_wiring.specs.declared.parts.Kind.{Kind}
@@ -31,8 +32,7 @@ all_placement_branches number (arbiter ∷ arbiters) =
     ∙ (ap (λ (bs : List BranchPart). arbiter.branches ++ bs) (all_placement_branches (number + 1) arbiters) ∙ sym (flat_map-cons (λ (a : ArbiterPart). a.branches) arbiter arbiters))
 
 domain_branches : (domains : List DomainPart) (ss : List Placement) → placement_branches (map (in_domain domains) ss) ≡ placement_branches ss
-domain_branches domains [] = refl
-domain_branches domains (s ∷ ss) = ap (λ (bs : List BranchPart). s.branch ∷ bs) (domain_branches domains ss)
+domain_branches domains ss = map_twice (λ (s : Placement). s.branch) (in_domain domains) ss
 
 -- the branches of all placements
 all_branches_with_placement : (parts : Parts) → placement_branches (placements parts) ≡ all_branches parts.arbiters

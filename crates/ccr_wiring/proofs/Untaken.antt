@@ -10,14 +10,11 @@ use Rattle.ccr_wiring.specs.declared.parts.Parts.{Parts}
 use Rattle.ccr_wiring.specs.Spots.{pattern_ports}
 use Rattle.std.proofs.lemmas.Option.{slice_get_past}
 use Rattle.ccr_base.specs.Lists.{has_number}
+use Rattle.ccr_base.proofs.Filters.{none_kept}
 use Rattle.ccr_wiring.specs.Takers.{takes_from, spots_at, is_for, branches_of, AreListed}
 use Rattle.ccr_wiring.specs.Valid.{IsValid}
 use Rattle.ccr_wiring.specs.Wirings.{Placement, placement, site_port, spots}
 use Rattle.ccr_wiring.proofs.Soundness.{sound}
-
-none_pass : (test : Spot → Bool) (seen : List Spot) → ((spot : Spot) → test spot ≡ false) → filter test seen ≡ []
-none_pass test [] never = refl
-none_pass test (spot ∷ seen) never = rw (never spot) (none_pass test seen never)
 
 -- numbers below the bound don't have one that isn't
 below : (ports : List ℕ) (bound port : ℕ) → ((index other : ℕ) → slice_get ports index ≡ Some other → other < bound) → bound ≤ port → has_number ports port ≡ false
@@ -28,7 +25,7 @@ below (other ∷ ports) bound port low past =
     grind (arith, nat_tests, first, past, rest)
 
 pub untaken : (wiring : Parts) (port : ℕ) → IsValid wiring → length wiring.ports ≤ port → spots_at wiring port ≡ []
-untaken wiring port valid past = none_pass (takes_from wiring port) (spots wiring) at
+untaken wiring port valid past = none_kept (takes_from wiring port) at (spots wiring)
   where
     at : (spot : Spot) → takes_from wiring port spot ≡ false
     at (Branch branch) = of_branch (placement wiring branch) refl
@@ -43,7 +40,7 @@ untaken wiring port valid past = none_pass (takes_from wiring port) (spots wirin
         of_site (Some other) is = let low = (sound wiring valid).site_ports branch site other is in grind (arith, nat_tests, low, past)
 
 pub unqueued : (wiring : Parts) (queue : ℕ) → IsValid wiring → length wiring.queues ≤ queue → branches_of wiring queue ≡ []
-unqueued wiring queue valid past = none_pass (is_for wiring queue) (spots wiring) at
+unqueued wiring queue valid past = none_kept (is_for wiring queue) at (spots wiring)
   where
     at : (spot : Spot) → is_for wiring queue spot ≡ false
     at (Branch branch) = of_branch (placement wiring branch) refl

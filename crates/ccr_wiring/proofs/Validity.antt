@@ -3,12 +3,15 @@ use Rattle.std.proofs.Common.{◌≡◌, ℕ, ◌≤◌, Bool, false, length, su
 use Rattle.std.specs.Prelude.{◌||◌, nat_lt, if◌then◌else◌}
 use Rattle.std.specs.List.{list_any, slice_get}
 use Rattle.std.proofs.lemmas.Bool.Decides.{nat_tests}
+use Rattle.std.specs.Option.{option_map_or}
 use Rattle.ccr_base.proofs.Options.{none_cond}
+use Rattle.ccr_base.proofs.Lists.{none_at}
+use Rattle.ccr_base.specs.declared.policies.Policy.TheVariants.{Unbounded}
 use Rattle.ccr_wiring.specs.declared.parts.ArbiterPart.{ArbiterPart}
 use Rattle.ccr_wiring.specs.declared.parts.HandlerPart.{HandlerPart}
 use Rattle.ccr_wiring.specs.declared.parts.Parts.{Parts}
-use Rattle.ccr_wiring.specs.Wirings.{actions_of}
-use Rattle.ccr_wiring.specs.Limits.{has_outside, has_too_many, has_outside_queue, has_outside_set, has_outside_handler, has_outside_arbiter, has_outside_domain, handler_is_outside, action_is_outside, has_branches_above, has_posts_above}
+use Rattle.ccr_wiring.specs.Wirings.{actions_of, policy_of}
+use Rattle.ccr_wiring.specs.Limits.{has_outside, has_too_many, has_outside_queue, has_outside_set, has_outside_handler, has_outside_arbiter, has_outside_domain, handler_is_outside, action_is_outside, has_branches_above, has_posts_above, policy_is_outside, queue_is_outside}
 use Rattle.ccr_wiring.specs.Spots.{all_branches, has_crowded_port}
 use Rattle.ccr_wiring.specs.Groups.{has_misgrouped, has_branchless}
 use Rattle.ccr_wiring.specs.Names.{has_repeated_name, has_malformed_name}
@@ -16,8 +19,10 @@ use Rattle.ccr_wiring.specs.References.{has_dangling}
 use Rattle.ccr_wiring.specs.Repeats.{has_repeat}
 use Rattle.ccr_wiring.specs.Versions.{has_strange_version, has_newer}
 use Rattle.ccr_wiring.specs.Codes.{code_of}
-use Rattle.ccr_wiring.proofs.Lists.{neither, none_at}
+use Rattle.ccr_wiring.proofs.Lists.{neither}
 use Rattle.ccr_wiring.proofs.SpotsAreListed.{length-all_branches}
+use Rattle.ccr_wiring.specs.declared.parts.QueuePart.{QueuePart}
+use Rattle.ccr_wiring.specs.Valid.{IsValid}
 
 pub record Within (parts : Parts) : Type 0 where
   pub budget : nat_lt 10000 parts.budget ≡ false
@@ -114,3 +119,11 @@ first_code a b c d e f g h i j = if a then Some 2 else if b then Some 3 else if 
 -- no code stands where none is met
 pub no_code : (a b c d e f g h i j : Bool) → a ≡ false → b ≡ false → c ≡ false → d ≡ false → e ≡ false → f ≡ false → g ≡ false → h ≡ false → i ≡ false → j ≡ false → first_code a b c d e f g h i j ≡ None
 no_code a b c d e f g h i j ea eb ec ed ee ef eg eh ei ej = rw (ea, eb, ec, ed, ee, ef, eg, eh, ei, ej) refl
+
+-- the policy of a valid wiring's queue is within its bounds
+pub policy_inside : (w : Parts) → IsValid w → (q : ℕ) → policy_is_outside (policy_of w q) ≡ false
+policy_inside w valid q = of_option (slice_get w.queues q) refl
+  where
+    of_option : (o : Option QueuePart) → slice_get w.queues q ≡ o → policy_is_outside (option_map_or (λ (part : QueuePart). part.policy) o Unbounded) ≡ false
+    of_option None at = refl
+    of_option (Some part) at = none_at queue_is_outside w.queues q part (within w (no_codes w valid).limits).queues at

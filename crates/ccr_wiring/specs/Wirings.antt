@@ -1,5 +1,5 @@
 -- What a wiring says of a branch, a queue, a handler and a cause.
-use Rattle.std.specs.Prelude.{ℕ, suc, ◌+◌, Bool, true, false, List, [], ◌∷◌, ◌++◌, map, filter_map, Option, Some, None, option_map}
+use Rattle.std.specs.Prelude.{ℕ, suc, ◌+◌, Bool, true, false, List, [], ◌∷◌, ◌++◌, map, filter_map, Option, Some, None, option_map, zero, length}
 use Rattle.std.specs.List.{slice_get}
 use Rattle.std.specs.Option.{option_map_or}
 use Rattle.ccr_base.specs.declared.names.Spot.{Spot}
@@ -32,6 +32,12 @@ placements_of number arbiter = map (λ branch. record { domain = number; kind = 
 abbrev pub placements_from : ℕ → List ArbiterPart → List Placement
 placements_from number [] = []
 placements_from number (arbiter ∷ arbiters) = placements_of number arbiter ++ placements_from (number + 1) arbiters
+
+-- how many branches the first arbiters have, so many of them
+abbrev pub branches_before : ℕ → List ArbiterPart → ℕ
+branches_before zero arbiters = 0
+branches_before (suc number) [] = 0
+branches_before (suc number) (arbiter ∷ arbiters) = length arbiter.branches + branches_before number arbiters
 
 -- the branch in the domain of its arbiter
 abbrev pub in_domain : List DomainPart → Placement → Placement

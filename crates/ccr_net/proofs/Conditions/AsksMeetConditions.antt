@@ -25,10 +25,10 @@ use Rattle.ccr_wiring.specs.declared.parts.Parts.{Parts}
 use Rattle.ccr_wiring.specs.Valid.{IsValid, IsSound}
 use Rattle.ccr_wiring.proofs.Soundness.{sound}
 use Rattle.ccr_model.specs.Firings.{fired}
-use Rattle.ccr_base.proofs.Booleans.{eq-self, or_left, refuted}
+use Rattle.ccr_base.proofs.Booleans.{eq-self, refuted}
 use Rattle.ccr_model.proofs.Members.{Among, Among-left}
 use Rattle.ccr_model.proofs.Roots.{running_works}
-use Rattle.ccr_base.proofs.SameNames.{same_task-is, same_task-self}
+use Rattle.ccr_base.proofs.SameNames.{same_task-is, has_task-last}
 use Rattle.ccr_base.proofs.Options.{some-below}
 use Rattle.ccr_places.specs.declared.claims.StandingClaim.{StandingClaim}
 use Rattle.ccr_places.specs.declared.notes.Note.{Note}
@@ -114,7 +114,7 @@ module _ (w : Parts) (valid : IsValid w) (n : ℕ) (lacks : Lacks) (es : List En
   -- ---- what is settled
 
   here : (t : TaskId) → has_task (t ∷ []) t ≡ true
-  here t = or_left (same_task t t) false (same_task-self t)
+  here t = has_task-last [] t
 
   settle_met : (x : Asked) (more : List Asked) → st.hand ≡ x ∷ more → Met x
   settle_met x more hand = by x.place x.ask (ready.placed a x owes) refl refl

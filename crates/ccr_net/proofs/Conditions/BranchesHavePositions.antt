@@ -1,5 +1,5 @@
 -- Where a branch stands among those of its arbiter, and that the ports of an attempt's slots differ.
-use Rattle.std.proofs.Common.{◌≡◌, ◌≤◌, ◌<◌, ℕ, suc, ◌+◌, ◌-◌, Bool, true, false, ◌&&◌, ◌||◌, List, [], ◌∷◌, length, Option, option_map, Some, None, refl, sym, arith, ap, ◌∙◌, subst}
+use Rattle.std.proofs.Common.{◌≡◌, ◌≤◌, ◌<◌, ℕ, ◌+◌, ◌-◌, Bool, true, false, ◌&&◌, ◌||◌, List, [], ◌∷◌, length, Option, option_map, Some, None, refl, sym, arith, ap, ◌∙◌, subst}
 use Rattle.std.specs.Prelude.{nat_lt, nat_le}
 use Rattle.std.specs.List.{slice_get, list_any}
 use Rattle.std.proofs.lemmas.Bool.Decides.{nat_tests}
@@ -14,57 +14,15 @@ use Rattle.ccr_wiring.specs.Domains.{domain_of}
 use Rattle.ccr_wiring.specs.Groups.{is_interleave}
 use Rattle.ccr_wiring.specs.References.{has_dangling_set, has_dangling_cause, has_dangling_handler, has_dangling_arbiter, has_dangling_poster, has_dangling_domain, domain_is_dangling, no_interleave}
 use Rattle.ccr_wiring.specs.Valid.{IsValid}
-use Rattle.ccr_wiring.specs.Wirings.{Placement, placement, placements_from, in_domain}
-use Rattle.ccr_wiring.proofs.Positions.{placement-here, placement-later, placement-domain}
-use Rattle.ccr_wiring.proofs.DomainsOfOwnKind.{member_fails}
+use Rattle.ccr_wiring.specs.Wirings.{Placement, placement, placements_from, in_domain, branches_before}
+use Rattle.ccr_wiring.proofs.Positions.{placement-domain}
+use Rattle.ccr_wiring.proofs.DomainsOfOwnKind.{member_fails, ArbiterOf, placement_of_arbiter}
 use Rattle.ccr_wiring.proofs.Validity.{no_codes}
 use Rattle.ccr_base.proofs.Booleans.{neither, no_both}
-use Rattle.ccr_base.proofs.Options.{get-some}
 use Rattle.ccr_base.specs.Lists.{has_number}
 use Rattle.ccr_places.specs.Arbiters as arbiters
-use Rattle.ccr_runs.specs.Places.{arbiter_after, branches_before, first_branch}
+use Rattle.ccr_runs.specs.Places.{arbiter_after, first_branch}
 use Rattle.ccr_net.proofs.Kept.ValidWiringsArePlain.{one_branch}
-
--- ---- positions
-
--- a placement by the index of its arbiter, and its number there
-record AtArbiter (n : ℕ) (parts : List ArbiterPart) (b : ℕ) (r : Placement) : Type 0 where
-  index : ℕ
-  part : ArbiterPart
-  number : r.domain ≡ n + index
-  at : slice_get parts index ≡ Some part
-  kind : r.kind ≡ part.kind
-  low : branches_before index parts ≤ b
-  high : b < branches_before index parts + length part.branches
-
-at_arbiter : (n : ℕ) (parts : List ArbiterPart) (b : ℕ) (r : Placement) → slice_get (placements_from n parts) b ≡ Some r → AtArbiter n parts b r
-at_arbiter n [] b r at = absurd (nobody at)
-  where
-    nobody : slice_get {X = Placement} [] b ≡ Some r → ⊥
-    nobody e = absurd cc
-at_arbiter n (a ∷ parts) b r at = by (nat_lt b (length a.branches)) refl (λ k later. at_arbiter (n + 1) parts k r later)
-  where
-    by : (c : Bool) → nat_lt b (length a.branches) ≡ c → ((k : ℕ) → slice_get (placements_from (n + 1) parts) k ≡ Some r → AtArbiter (n + 1) parts k r) → AtArbiter n (a ∷ parts) b r
-    by true e rest = record { index = 0; part = a; number = ap (λ (s : Placement). s.domain) is ∙ (let same : n ≡ n + 0 = omega arith in same); at = refl; kind = ap (λ (s : Placement). s.kind) is; low = omega arith; high = omega (arith, below) }
-      where
-        below : b < length a.branches
-        below = grind (arith, nat_tests, e)
-
-        found : (branch : BranchPart) × (slice_get a.branches b ≡ Some branch)
-        found = get-some a.branches b below
-
-        is : r ≡ record { domain = n; kind = a.kind; branch = found.0 }
-        is = inside r _ (sym at ∙ placement-here n a parts b found.0 found.1)
-          where
-            inside : (x y : Placement) → Some x ≡ Some y → x ≡ y
-            inside x y same = cc
-    by false e rest =
-        let above : length a.branches ≤ b = grind (arith, nat_tests, e) in
-        let there = rest (b - length a.branches) (sym (placement-later n a parts b above) ∙ at) in
-        let number = there.number in
-        let low = there.low in
-        let high = there.high in
-        record { index = suc there.index; part = there.part; number = omega (arith, number); at = there.at; kind = there.kind; low = omega (arith, above, low); high = omega (arith, above, high) }
 
 -- ---- domains
 
@@ -96,20 +54,20 @@ branch_position w valid b s part sits at kind_so outside = of_placement (slice_g
         same : in_domain w.domains r ≡ s
         same = cc
 
-        there : AtArbiter 0 w.arbiters b r
-        there = at_arbiter 0 w.arbiters b r here
+        there : ArbiterOf 0 w.arbiters b r
+        there = placement_of_arbiter 0 w.arbiters b r here
 
         raw : r.domain ≡ there.index
         raw = there.number ∙ (let e : 0 + there.index ≡ there.index = omega arith in e)
 
-        free : is_interleave there.part.kind ≡ false
+        free : is_interleave there.arbiter.kind ≡ false
         free = ap is_interleave (sym there.kind ∙ ap (λ (x : Placement). x.kind) same) ∙ outside
 
         number : s.domain ≡ there.index
-        number = ap (λ (x : Placement). x.domain) (sym same) ∙ ap (domain_of w.domains) raw ∙ own_domain w there.index there.part w.domains dangling there.at free
+        number = ap (λ (x : Placement). x.domain) (sym same) ∙ ap (domain_of w.domains) raw ∙ own_domain w there.index there.arbiter w.domains dangling there.at free
 
-        part_so : there.part ≡ part
-        part_so = inside there.part part (sym there.at ∙ ap (slice_get w.arbiters) (sym number) ∙ at)
+        part_so : there.arbiter ≡ part
+        part_so = inside there.arbiter part (sym there.at ∙ ap (slice_get w.arbiters) (sym number) ∙ at)
           where
             inside : (x y : ArbiterPart) → Some x ≡ Some y → x ≡ y
             inside x y e = cc

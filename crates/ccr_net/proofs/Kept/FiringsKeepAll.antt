@@ -74,7 +74,7 @@ use Rattle.ccr_net.proofs.Parts.MeterMatches.{MeterMatches-quiet, is_posting, is
 use Rattle.ccr_net.proofs.Parts.PhasesFitPlans.{SpotFits, Fits, slot_had}
 use Rattle.ccr_net.proofs.Kept.WholeInvariant.{ActorHolds, Holds, Holds-kept, is_port_place, is_queue_place, is_meter_place, meter_at, works_of, queue_changes, same_under_way, same_stays, same_ports, same_queues, same_meter, hand_settles}
 use Rattle.ccr_net.proofs.Kept.SilentStepsKeepAll.{drives}
-use Rattle.ccr_net.proofs.Kept.WhatWiringsHave.{PlainFacts, IsEven, no_posts}
+use Rattle.ccr_net.proofs.Kept.WhatWiringsHave.{PlainFacts, IsEven}
 use Rattle.ccr_net.proofs.Kept.EventsAreAllowed.{put_allowed, start_allowed}
 use Rattle.ccr_net.proofs.Kept.ShownStepsKeepAll.{named_legal, ActorHolds-event, step_other}
 use Rattle.ccr_net.proofs.Parts.GotIsASelection.{all_fit, in_ports, chosen, whole_ports, fired_other, none_put}
@@ -90,6 +90,7 @@ use Rattle.ccr_model.proofs.FiredTasks.{root_stays}
 use Rattle.ccr_model.proofs.Queued.{queued-other, new_unput}
 use Rattle.ccr_model.proofs.Allowing.{first-self}
 use Rattle.ccr_model.proofs.RunningTasks.{starts, running_by-push, running_by-end}
+use Rattle.ccr_model.proofs.NoPosts.{no_posts}
 
 module _ (w : Parts) (n : ℕ) (first : PlainFacts w) (few : n ≤ 33) (lacks : Lacks) (es : List Entry) (e : Entry) (low : e.actor < n) (holds : Holds w n lacks es) where
   abbrev before : State

@@ -4,6 +4,7 @@ use Rattle.std.specs.Prelude.{IsSomeAnd, ◌==◌, nat_le, nat_lt}
 use Rattle.std.proofs.lemmas.Bool.Decides.{nat_tests}
 use Rattle.std.specs.List.{slice_get}
 use Rattle.std.specs.Option.{option_map_or}
+use Rattle.std.proofs.lemmas.List.{drop-drop}
 use Rattle.ccr_base.specs.declared.handlers.Action.{Action}
 use Rattle.ccr_base.specs.declared.handlers.Action.TheVariants as actions
 use Rattle.ccr_base.specs.declared.names.Spot.{Spot}
@@ -22,19 +23,20 @@ use Rattle.ccr_wiring.specs.declared.parts.Kind.TheVariants as kinds
 use Rattle.ccr_wiring.specs.declared.parts.Parts.{Parts}
 use Rattle.ccr_wiring.specs.Groups.{may_have, is_receive, is_one_named, is_misgrouped, has_strange_group, is_once}
 use Rattle.ccr_wiring.specs.Valid.{IsValid, IsSound, IsPatternFilled}
-use Rattle.ccr_wiring.specs.Wirings.{Placement, placement, placements, placements_from, in_domain, spots_from, sites_from, site_port, actions_of, awaited, branch_of, segment_of, exception_port}
-use Rattle.ccr_wiring.proofs.Lists.{neither, none_at}
+use Rattle.ccr_wiring.specs.Wirings.{Placement, placement, placements, placements_from, in_domain, spots_from, sites_from, site_port, actions_of, awaited, branch_of, segment_of, exception_port, branches_before}
+use Rattle.ccr_wiring.proofs.Lists.{neither}
 use Rattle.ccr_wiring.proofs.Positions.{placement-here, placement-later, placement-domain}
 use Rattle.ccr_wiring.proofs.Soundness.{sound}
 use Rattle.ccr_wiring.proofs.Validity.{no_codes}
 use Rattle.ccr_model.specs.Tasks.{is_interleave}
 use Rattle.ccr_base.proofs.Booleans.{both}
+use Rattle.ccr_base.proofs.Options.{drop-next}
+use Rattle.ccr_base.proofs.Lists.{none_at}
 use Rattle.ccr_model.proofs.Members.{Among, Among-either, index_of}
 use Rattle.ccr_actor.specs.Actors.{play_in}
 use Rattle.ccr_places.specs.Arbiters as arbiters
-use Rattle.ccr_runs.specs.Places.{arbiter_after, branches_before, first_branch}
+use Rattle.ccr_runs.specs.Places.{arbiter_after, first_branch}
 use Rattle.ccr_net.proofs.Parts.PhasesFitPlans.{SpotFits}
-use Rattle.ccr_net.proofs.Parts.WorkMatches.{drop-next}
 use Rattle.ccr_net.proofs.Kept.WhatWiringsHave.{PlainFacts, IsEven, Retires}
 
 even_filled : (pattern : Pattern) → IsPatternFilled pattern → IsEven pattern
@@ -132,9 +134,7 @@ awaited-after (actions.Remove cause ∷ acts) = awaited-after acts
 awaited-after (actions.Await port ∷ acts) = refl
 
 drop-one : (k : ℕ) (xs : List ℕ) → drop 1 (drop k xs) ≡ drop (suc k) xs
-drop-one zero xs = refl
-drop-one (suc k) [] = refl
-drop-one (suc k) (x ∷ xs) = drop-one k xs
+drop-one k xs = drop-drop 1 k xs ∙ ap (λ n. drop n xs) (let on : k + 1 ≡ suc k = omega arith in on)
 
 awaited-from : (k : ℕ) (acts : List Action) → awaited (actions_from k acts) ≡ drop k (awaited acts)
 awaited-from zero acts = refl

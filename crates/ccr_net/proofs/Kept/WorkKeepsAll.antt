@@ -28,7 +28,7 @@ use Rattle.ccr_model.specs.Firings.{ended, yielded_by}
 use Rattle.ccr_model.proofs.FiredTasks.{IsFired, IsFired-append}
 use Rattle.ccr_model.specs.Tasks.{running, running_by, has_post_left, unfinished, count_unfinished}
 use Rattle.ccr_base.proofs.Booleans.{same_number, eq-self, or_right}
-use Rattle.ccr_base.proofs.Options.{no_some}
+use Rattle.ccr_base.proofs.Options.{no_some, drop-next, drop-end}
 use Rattle.ccr_model.proofs.OneMoreEvent.{posts-push}
 use Rattle.ccr_base.proofs.SameNames.{same_value-self}
 use Rattle.ccr_model.proofs.TaskLists.{to_filter}
@@ -51,7 +51,7 @@ use Rattle.ccr_net.proofs.Parts.StepsKeepActors.{ActorMatches-same}
 use Rattle.ccr_net.proofs.Parts.QueuesMatch.{QueueChanges, takes}
 use Rattle.ccr_net.proofs.Parts.BookedHasRoom.{BookingsMatch-take, Stays-note}
 use Rattle.ccr_net.proofs.Parts.TasksStartOnce.{AreStartedOnce-legal, run_apart, runs}
-use Rattle.ccr_net.proofs.Parts.WorkMatches.{WorkMatches, RunsTask, Scripted, Idle, script_says, task_says, script_own, task_own, drop-next, drop-end, play-view, view-stays}
+use Rattle.ccr_net.proofs.Parts.WorkMatches.{WorkMatches, RunsTask, Scripted, Idle, script_says, task_says, script_own, task_own, play-view, view-stays}
 use Rattle.ccr_net.proofs.Parts.MeterMatches.{MeterMatches, MeterMatches-quiet, MeterMatches-drawn, MeterMatches-spent, MeterMatches-post, is_posting, is_shedding, count, bit, count-one, count-some, count-within}
 use Rattle.ccr_net.proofs.Kept.WholeInvariant.{ActorHolds, Holds, meter_at, meter_at-push, works_of, queue_changes, same_ports, same_queues}
 use Rattle.ccr_net.proofs.Parts.PortsAndHandsMatch.{puts_in}

@@ -16,7 +16,7 @@ use Rattle.ccr_base.specs.declared.patterns.Slot.{Slot}
 use Rattle.ccr_base.specs.declared.tasks.How.{How}
 use Rattle.ccr_base.specs.declared.tasks.Task.{Task}
 use Rattle.ccr_base.specs.Names.{has_task}
-use Rattle.ccr_base.proofs.Options.{no_some}
+use Rattle.ccr_base.proofs.Options.{no_some, drop-next}
 use Rattle.ccr_handler.specs.declared.segments.Play.{Play}
 use Rattle.ccr_handler.specs.declared.segments.PlayEnd.{PlayEnd}
 use Rattle.ccr_handler.specs.declared.segments.PlayEnd.TheVariants as plays
@@ -64,7 +64,7 @@ use Rattle.ccr_net.proofs.Parts.PhasesFitPlans.{Fits, PhaseFits, SpotFits}
 use Rattle.ccr_net.proofs.Kept.WhatWiringsHave.{PlainFacts}
 use Rattle.ccr_net.proofs.Played.PlacesByNumber.{same_place-is}
 use Rattle.ccr_net.proofs.Kept.ShownStepsKeepAll.{named_legal}
-use Rattle.ccr_net.proofs.Parts.WorkMatches.{RunsTask, WorkMatches, drop-next, play-view}
+use Rattle.ccr_net.proofs.Parts.WorkMatches.{RunsTask, WorkMatches, play-view}
 
 -- ---- what is handed back was taken before
 

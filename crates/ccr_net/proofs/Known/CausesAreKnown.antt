@@ -23,7 +23,6 @@ use Rattle.ccr_wiring.specs.declared.parts.Parts.{Parts}
 use Rattle.ccr_wiring.specs.declared.parts.PosterPart.{PosterPart}
 use Rattle.ccr_wiring.specs.Valid.{IsActionNamed, IsSound}
 use Rattle.ccr_wiring.specs.Wirings.{Placement, actions_of, branch_of, exception_port, placement, segment_of, actions_at}
-use Rattle.ccr_wiring.proofs.Apart.{apart_snoc}
 use Rattle.ccr_model.specs.declared.history.Event.{Event}
 use Rattle.ccr_model.specs.declared.history.Event.TheVariants as events
 use Rattle.ccr_model.specs.Firings.{spot_of}
@@ -42,6 +41,7 @@ use Rattle.ccr_model.proofs.PostNames.{along, refused_not}
 use Rattle.ccr_model.proofs.OneMoreEvent.{posts-push}
 use Rattle.ccr_model.proofs.TakenWerePosted.{took_among}
 use Rattle.ccr_claim.specs.Wired.{AreCausesOf}
+use Rattle.ccr_claim.proofs.CausesStandOnce.{with_apart, union_apart}
 
 -- ---- lists of causes
 
@@ -60,17 +60,20 @@ fine_causes w causes fine = (all_of (λ c. c < length w.causes) causes fine.belo
 none_fine : (n : ℕ) → AreFine n []
 none_fine n = record { below = λ c is. absurd is; apart = refl }
 
-with_fine : (n : ℕ) (causes : List ℕ) (c : ℕ) → AreFine n causes → c < n → AreFine n (with_cause causes c)
-with_fine n causes c fine low = by (has_number causes c) refl
+with_below : (n : ℕ) (causes : List ℕ) (c : ℕ) → ((d : ℕ) → Among d causes → d < n) → c < n → (d : ℕ) → Among d (with_cause causes c) → d < n
+with_below n causes c low one d among = by (has_number causes c) among
   where
-    below_too : (d : ℕ) → Among d causes ⊎ Among d (c ∷ []) → d < n
-    below_too d (inl is) = fine.below d is
-    below_too d (inr (inl e)) = subst (λ k. k < n) (sym e) low
-    below_too d (inr (inr none)) = absurd none
+    of_both : Among d causes ⊎ Among d (c ∷ []) → d < n
+    of_both (inl is) = low d is
+    of_both (inr (inl e)) = subst (λ k. k < n) (sym e) one
+    of_both (inr (inr none)) = absurd none
 
-    by : (b : Bool) → has_number causes c ≡ b → AreFine n (if b then causes else causes ++ c ∷ [])
-    by true is = fine
-    by false is = record { below = λ d among. below_too d (Among-either d causes (c ∷ []) among); apart = apart_snoc causes c fine.apart is }
+    by : (b : Bool) → Among d (if b then causes else causes ++ c ∷ []) → d < n
+    by true is = low d is
+    by false is = of_both (Among-either d causes (c ∷ []) is)
+
+with_fine : (n : ℕ) (causes : List ℕ) (c : ℕ) → AreFine n causes → c < n → AreFine n (with_cause causes c)
+with_fine n causes c fine low = record { below = with_below n causes c fine.below low; apart = with_apart causes c fine.apart }
 
 filter_out : (p : ℕ → Bool) (xs : List ℕ) (x : ℕ) → has_number xs x ≡ false → has_number (filter p xs) x ≡ false
 filter_out p [] x out = refl
@@ -92,9 +95,12 @@ filter_apart p (x ∷ xs) apart = by (p x) (both (not (has_number xs x)) (are_ap
 without_fine : (n : ℕ) (causes : List ℕ) (c : ℕ) → AreFine n causes → AreFine n (without_cause causes c)
 without_fine n causes c fine = record { below = λ d is. fine.below d (Among-kept (λ other. not (other == c)) causes d is); apart = filter_apart (λ other. not (other == c)) causes fine.apart }
 
+union_below : (n : ℕ) (causes more : List ℕ) → ((d : ℕ) → Among d causes → d < n) → ((d : ℕ) → Among d more → d < n) → (d : ℕ) → Among d (union causes more) → d < n
+union_below n causes [] low all d is = low d is
+union_below n causes (c ∷ more) low all d is = union_below n (with_cause causes c) more (with_below n causes c low (all c (inl refl))) (λ e there. all e (inr there)) d is
+
 pub union_fine : (n : ℕ) (causes more : List ℕ) → AreFine n causes → ((c : ℕ) → Among c more → c < n) → AreFine n (union causes more)
-union_fine n causes [] fine low = fine
-union_fine n causes (c ∷ more) fine low = union_fine n (with_cause causes c) more (with_fine n causes c fine (low c (inl refl))) (λ d is. low d (inr is))
+union_fine n causes more fine low = record { below = union_below n causes more fine.below low; apart = union_apart causes more fine.apart }
 
 -- ---- plays
 

@@ -10,8 +10,9 @@ use Rattle.ccr_base.specs.declared.names.Spot.TheVariants.{Branch, Site}
 use Rattle.ccr_wiring.specs.declared.parts.DomainPart.{DomainPart}
 use Rattle.ccr_wiring.specs.declared.parts.Parts.{Parts}
 use Rattle.ccr_wiring.specs.Domains.{domain_of}
-use Rattle.ccr_wiring.specs.Wirings.{Placement, actions_of, awaited, placements, sites_from, spots, spots_from}
+use Rattle.ccr_wiring.specs.Wirings.{Placement, actions_of, awaited, placements, spots}
 use Rattle.ccr_model.proofs.Members.{Among, Among-left, Among-right, index_of}
+use Rattle.ccr_model.proofs.QuietAllowsNone.{site_among}
 use Rattle.ccr_object.specs.Starts.{arbiter_places, places_of, port_places, queue_places, site_places}
 use Rattle.ccr_net.proofs.Known.TasksAreKnown.{seat_of}
 use Rattle.ccr_net.proofs.Parts.PhasesFitPlans.{SpotFits}
@@ -64,32 +65,17 @@ arbiter_among ds (suc n) i low own = by (last_or i n low) (λ less. arbiter_amon
 
 -- ---- sites
 
-site_here : (b n k : ℕ) (ports : List ℕ) (port : ℕ) → slice_get ports k ≡ Some port → Among (Site b (n + k)) (sites_from b n ports)
-site_here b n k [] port at = absurd (cc)
-site_here b n zero (p ∷ ports) port at = inl (ap (Site b) (let e : n + 0 ≡ n = omega arith in e))
-site_here b n (suc k) (p ∷ ports) port at = inr (subst (λ m. Among (Site b m) (sites_from b (n + 1) ports)) (let e : (n + 1) + k ≡ n + suc k = omega arith in e) (site_here b (n + 1) k ports port at))
-
-spot_here : (w : Parts) (b j : ℕ) (ss : List Placement) (s : Placement) (k port : ℕ) → slice_get ss j ≡ Some s → slice_get (awaited (actions_of w s.branch.handler)) k ≡ Some port → Among (Site (b + j) k) (spots_from w b ss)
-spot_here w b j [] s k port at is = absurd (cc)
-spot_here w b zero (r ∷ ss) s k port at is =
-    let same : r ≡ s = cc in
-    let there : slice_get (awaited (actions_of w r.branch.handler)) k ≡ Some port = subst (λ (x : Placement). slice_get (awaited (actions_of w x.branch.handler)) k ≡ Some port) (sym same) is in
-    let sites : List Spot = sites_from b 0 (awaited (actions_of w r.branch.handler)) in
-    let one : Among (Site (b + 0) k) sites = subst (λ m. Among (Site m k) sites) (let e : b ≡ b + 0 = omega arith in e) (subst (λ l. Among (Site b l) sites) (let e : 0 + k ≡ k = omega arith in e) (site_here b 0 k (awaited (actions_of w r.branch.handler)) port there)) in
-    inr (Among-left (Site (b + 0) k) (sites_from b 0 (awaited (actions_of w r.branch.handler))) (spots_from w (b + 1) ss) one)
-spot_here w b (suc j) (r ∷ ss) s k port at is = inr (Among-right (Site (b + suc j) k) (sites_from b 0 (awaited (actions_of w r.branch.handler))) (spots_from w (b + 1) ss) (subst (λ m. Among (Site m k) (spots_from w (b + 1) ss)) (let e : (b + 1) + j ≡ b + suc j = omega arith in e) (spot_here w (b + 1) j ss s k port at is)))
-
 site_place_among : (ss : List Spot) (b k : ℕ) → Among (Site b k) ss → Among (places.Site b k) (site_places ss)
 site_place_among [] b k is = absurd is
 site_place_among (x ∷ ss) b k (inl e) = subst (λ (y : Spot). Among (places.Site b k) (site_places (y ∷ ss))) e (inl refl)
 site_place_among (Branch c ∷ ss) b k (inr more) = site_place_among ss b k more
 site_place_among (Site c l ∷ ss) b k (inr more) = inr (site_place_among ss b k more)
 
-site_among : (w : Parts) (b k : ℕ) → SpotFits w (Site b k) → Among (places.Site b k) (site_places (spots w))
-site_among w b k fits =
+site_place_of : (w : Parts) (b k : ℕ) → SpotFits w (Site b k) → Among (places.Site b k) (site_places (spots w))
+site_place_of w b k fits =
     let seat = seat_of w (Site b k) fits in
     let port : slice_get (awaited (actions_of w seat.0.branch.handler)) k ≡ Some fits.0 = sym (ap (λ o. option_map_or (λ (r : Placement). slice_get (awaited (actions_of w r.branch.handler)) k) o None) seat.1) ∙ fits.1 in
-    site_place_among (spots w) b k (subst (λ m. Among (Site m k) (spots w)) (let e : 0 + b ≡ b = omega arith in e) (spot_here w 0 b (placements w) seat.0 k fits.0 seat.1 port))
+    site_place_among (spots w) b k (site_among w 0 b b k fits.0 (placements w) seat.0 (omega arith) seat.1 port)
 
 -- ---- all places
 
@@ -111,7 +97,7 @@ place_among w place is = by place is
     by : (place : Place) → IsPlaceOf w place → Among place ((((ports ++ arbiters) ++ sites) ++ queues) ++ places.Meter ∷ [])
     by (places.Port p) is = Among-left _ (((ports ++ arbiters) ++ sites) ++ queues) _ (Among-left _ ((ports ++ arbiters) ++ sites) queues (Among-left _ (ports ++ arbiters) sites (Among-left _ ports arbiters (port_among (length w.ports) p is))))
     by (places.Arbiter i) is = Among-left _ (((ports ++ arbiters) ++ sites) ++ queues) _ (Among-left _ ((ports ++ arbiters) ++ sites) queues (Among-left _ (ports ++ arbiters) sites (Among-right _ ports arbiters (arbiter_among w.domains (length w.arbiters) i is.0 is.1))))
-    by (places.Site b k) is = Among-left _ (((ports ++ arbiters) ++ sites) ++ queues) _ (Among-left _ ((ports ++ arbiters) ++ sites) queues (Among-right _ (ports ++ arbiters) sites (site_among w b k is)))
+    by (places.Site b k) is = Among-left _ (((ports ++ arbiters) ++ sites) ++ queues) _ (Among-left _ ((ports ++ arbiters) ++ sites) queues (Among-right _ (ports ++ arbiters) sites (site_place_of w b k is)))
     by (places.Queue q) is = Among-left _ (((ports ++ arbiters) ++ sites) ++ queues) _ (Among-right _ ((ports ++ arbiters) ++ sites) queues (queue_among (length w.queues) q is))
     by places.Meter is = Among-right _ (((ports ++ arbiters) ++ sites) ++ queues) _ (inl refl)
 

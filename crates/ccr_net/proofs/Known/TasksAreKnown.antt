@@ -1,6 +1,6 @@
 -- The tasks of a legal history, and those that attempts build, name what the wiring has.
 use Rattle.std.proofs.Common.{◌⊎◌, inl, inr, ◌≡◌, ◌<◌, ◌≤◌, min, ℕ, Bool, true, false, not, ◌||◌, List, [], ◌∷◌, ◌++◌, length, flat_map, Option, Some, None, refl, sym, arith, ap, ◌∙◌, subst}
-use Rattle.std.specs.Prelude.{◌==◌, if◌then◌else◌, find, is_some, option_map, unwrap_or, slice_get, nat_le}
+use Rattle.std.specs.Prelude.{◌==◌, if◌then◌else◌, is_some, option_map, unwrap_or, slice_get, nat_le}
 use Rattle.std.specs.Option.{option_and_then, option_map_or}
 use Rattle.std.proofs.lemmas.Bool.Decides.{nat_tests}
 use Rattle.ccr_base.specs.declared.messages.Msg.{Msg}
@@ -19,6 +19,7 @@ use Rattle.ccr_wiring.proofs.Lists.{neither}
 use Rattle.ccr_wiring.proofs.DomainsOfOwnKind.{least-low}
 use Rattle.ccr_wiring.proofs.Positions.{placement-domain}
 use Rattle.ccr_wiring.proofs.Validity.{no_codes}
+use Rattle.ccr_wiring.proofs.Apart.{apart-split}
 use Rattle.ccr_model.specs.declared.history.Event.{Event}
 use Rattle.ccr_model.specs.declared.history.Event.TheVariants as events
 use Rattle.ccr_model.specs.Selection.{are_oldest}
@@ -26,11 +27,12 @@ use Rattle.ccr_model.specs.Firings.{Firing, firing_of, firings}
 use Rattle.ccr_model.specs.Legal.{IsAllowed, IsLegal}
 use Rattle.ccr_model.specs.Posts.{held}
 use Rattle.ccr_model.specs.TaskData.{placement_of}
-use Rattle.ccr_base.proofs.Booleans.{both, eq-self, same_number, not_true, or_right}
+use Rattle.ccr_base.proofs.Booleans.{both, eq-self, same_number, or_right}
 use Rattle.ccr_model.proofs.FiredTasks.{IsFired}
-use Rattle.ccr_model.proofs.Members.{Among, Among-either}
+use Rattle.ccr_model.proofs.Members.{Among, Among-either, found_among}
 use Rattle.ccr_base.proofs.Options.{some-below, some_of}
 use Rattle.ccr_base.specs.Lists.{are_apart, has_number}
+use Rattle.ccr_base.proofs.Lists.{any_left, any_right}
 use Rattle.ccr_model.proofs.PlacementDomains.{placement-within}
 use Rattle.ccr_model.proofs.PostNames.{along}
 use Rattle.ccr_model.proofs.OneMoreEvent.{firings-push}
@@ -79,46 +81,18 @@ least-again m xs low = by (least-either m xs)
     by (inl same) = same
     by (inr there) = let up = low (least_with m xs) there in let down = least-low m xs in omega (arith, up, down)
 
-port-right : (xs ys : List ℕ) (m : ℕ) → has_number (xs ++ ys) m ≡ false → has_number ys m ≡ false
-port-right [] ys m out = out
-port-right (x ∷ xs) ys m out = port-right xs ys m (neither (x == m) (has_number (xs ++ ys) m) out).1
-
-port-left : (xs ys : List ℕ) (m : ℕ) → has_number xs m ≡ true → has_number (xs ++ ys) m ≡ true
-port-left [] ys m is = absurd (cc)
-port-left (x ∷ xs) ys m is = by (x == m) is (port-left xs ys m)
-  where
-    by : (b : Bool) → b || has_number xs m ≡ true → (has_number xs m ≡ true → has_number (xs ++ ys) m ≡ true) → b || has_number (xs ++ ys) m ≡ true
-    by true there rest = refl
-    by false there rest = rest there
-
-port-later : (xs ys : List ℕ) (m : ℕ) → has_number ys m ≡ true → has_number (xs ++ ys) m ≡ true
-port-later [] ys m is = is
-port-later (x ∷ xs) ys m is = by (x == m) (port-later xs ys m is)
-  where
-    by : (b : Bool) → has_number (xs ++ ys) m ≡ true → b || has_number (xs ++ ys) m ≡ true
-    by true rest = refl
-    by false rest = rest
-
 apart-right : (xs ys : List ℕ) → are_apart (xs ++ ys) ≡ true → are_apart ys ≡ true
 apart-right [] ys apart = apart
 apart-right (x ∷ xs) ys apart = apart-right xs ys (both (not (has_number (xs ++ ys) x)) (are_apart (xs ++ ys)) apart).1
-
-apart-split : (xs ys : List ℕ) (m : ℕ) → are_apart (xs ++ ys) ≡ true → has_number xs m ≡ true → has_number ys m ≡ false
-apart-split [] ys m apart is = absurd (cc)
-apart-split (x ∷ xs) ys m apart is = by (x == m) refl is (apart-split xs ys m (both (not (has_number (xs ++ ys) x)) (are_apart (xs ++ ys)) apart).1)
-  where
-    by : (b : Bool) → (x == m) ≡ b → b || has_number xs m ≡ true → (has_number xs m ≡ true → has_number ys m ≡ false) → has_number ys m ≡ false
-    by true same there rest = subst (λ k. has_number ys k ≡ false) (same_number x m same) (port-right xs ys x (not_true (has_number (xs ++ ys) x) (both (not (has_number (xs ++ ys) x)) (are_apart (xs ++ ys)) apart).0))
-    by false other there rest = rest there
 
 domain-either : (ds : List DomainPart) (j : ℕ) → (domain_of ds j ≡ j) ⊎ (has_number (members_in_all ds) (domain_of ds j) ≡ true)
 domain-either [] j = inl refl
 domain-either (d ∷ ds) j = by (has_number d.members j) refl (domain-either ds j)
   where
     by : (b : Bool) → has_number d.members j ≡ b → (domain_of ds j ≡ j) ⊎ (has_number (members_in_all ds) (domain_of ds j) ≡ true) → ((if b then least_with j d.members else domain_of ds j) ≡ j) ⊎ (has_number (d.members ++ members_in_all ds) (if b then least_with j d.members else domain_of ds j) ≡ true)
-    by true there rest = inr (port-left d.members (members_in_all ds) (least_with j d.members) (least-there j d.members there))
+    by true there rest = inr (any_left (λ m. m == least_with j d.members) d.members (members_in_all ds) (least-there j d.members there))
     by false out (inl same) = inl same
-    by false out (inr later) = inr (port-later d.members (members_in_all ds) (domain_of ds j) later)
+    by false out (inr later) = inr (any_right (λ m. m == domain_of ds j) d.members (members_in_all ds) later)
 
 -- the domain of a domain is that domain
 domain-again : (ds : List DomainPart) (j : ℕ) → are_apart (members_in_all ds) ≡ true → domain_of ds (domain_of ds j) ≡ domain_of ds j
@@ -223,20 +197,9 @@ fires_fit w h legal = along w (λ g. (f : Firing) → Among f (firings g) → Sp
         by (events.Start t a) allowed (inr none) = absurd none
         by (events.End t how) allowed (inr none) = absurd none
 
-found_firing : (t : TaskId) (fs : List Firing) (f : Firing) → find (λ (g : Firing). same_task g.task t) fs ≡ Some f → Among f fs
-found_firing t [] f is = absurd (cc)
-found_firing t (x ∷ fs) f is = by (same_task x.task t) is (found_firing t fs f)
-  where
-    inside : {a b : Firing} → Some a ≡ Some b → b ≡ a
-    inside e = cc
-
-    by : (b : Bool) → (if b then Some x else find (λ (g : Firing). same_task g.task t) fs) ≡ Some f → (find (λ (g : Firing). same_task g.task t) fs ≡ Some f → Among f fs) → Among f (x ∷ fs)
-    by true here rest = inl (inside here)
-    by false later rest = inr (rest later)
-
 module _ (w : Parts) (all : IsSound w) (h : List Event) (legal : IsLegal w h) (t : TaskId) (fires : IsFired h t) where
   pub fired_fits : SpotFits w fires.0.spot
-  fired_fits = fires_fit w h legal fires.0 (found_firing t (firings h) fires.0 fires.1)
+  fired_fits = fires_fit w h legal fires.0 (found_among (λ (g : Firing). same_task g.task t) (firings h) fires.0 fires.1)
 
   spot_so : (view w h t).spot ≡ fires.0.spot
   spot_so = ap (λ o. unwrap_or (option_map (λ (f : Firing). f.spot) o) (Branch 0)) fires.1

@@ -1,9 +1,11 @@
 -- A name that a queue has booked or queued was reached by its actor, so a new attempt's name is new to each queue.
-use Rattle.std.proofs.Common.{inl, inr, ◌⊎◌, ◌≡◌, ◌≤◌, ◌<◌, ℕ, zero, suc, ◌+◌, Bool, true, false, not, ◌||◌, List, [], ◌∷◌, ◌++◌, drop, Option, Some, None, refl, sym, arith, ap, ◌∙◌, subst}
+use Rattle.std.proofs.Common.{inl, inr, ◌⊎◌, ◌≡◌, ◌≤◌, ◌<◌, ℕ, ◌+◌, Bool, true, false, not, ◌||◌, List, [], ◌∷◌, ◌++◌, drop, Option, Some, None, refl, sym, arith, ap, ◌∙◌, subst, take}
 use Rattle.std.proofs.lemmas.Bool.{or_cases}
 use Rattle.std.specs.Prelude.{◌==◌, if◌then◌else◌}
 use Rattle.std.specs.List.{list_any}
 use Rattle.std.specs.FinSet as set
+use Rattle.std.proofs.lemmas.List.{take-append-drop}
+use Rattle.std.proofs.lemmas.List.Folds.{list_any-append}
 use Rattle.ccr_base.specs.declared.messages.Sent.{Sent}
 use Rattle.ccr_base.specs.declared.names.Place.{Place}
 use Rattle.ccr_base.specs.declared.names.Place.TheVariants as places
@@ -12,9 +14,10 @@ use Rattle.ccr_base.specs.Names.{same_task}
 use Rattle.ccr_handler.specs.declared.segments.PlayEnd.{PlayEnd}
 use Rattle.ccr_handler.specs.declared.segments.PlayEnd.TheVariants as plays
 use Rattle.ccr_wiring.specs.declared.parts.Parts.{Parts}
-use Rattle.ccr_base.proofs.Booleans.{same_number, eq-self, no_both, both, or_left, or_right}
+use Rattle.ccr_base.proofs.Booleans.{same_number, eq-self, no_both, both, or_left, or_right, or_none}
 use Rattle.ccr_model.proofs.Members.{Among}
 use Rattle.ccr_base.proofs.SameNames.{same_task-is}
+use Rattle.ccr_base.proofs.Lists.{any_right}
 use Rattle.ccr_places.specs.declared.notes.Note.{Note}
 use Rattle.ccr_places.specs.declared.notes.Note.TheVariants as notes
 use Rattle.ccr_places.specs.Queues.{QueueState, Queued}
@@ -55,25 +58,14 @@ NamesReached w lacks es = (q : ℕ) (t : TaskId) → is_known (queue_at w es q) 
 -- ---- what a note makes known
 
 any_drop : (p : Queued → Bool) (n : ℕ) (xs : List Queued) → list_any p (drop n xs) ≡ true → list_any p xs ≡ true
-any_drop p zero xs is = is
-any_drop p (suc n) [] is = is
-any_drop p (suc n) (x ∷ xs) is = or_right (p x) (list_any p xs) (any_drop p n xs is)
+any_drop p n xs is = subst (λ ys. list_any p ys ≡ true) (take-append-drop n xs) (any_right p (take n xs) (drop n xs) is)
 
 any_last : (p : Queued → Bool) (xs : List Queued) (x : Queued) → list_any p (xs ++ x ∷ []) ≡ true → (list_any p xs ≡ true) ⊎ (p x ≡ true)
-any_last p [] x is = of_or (or_cases (p x) false is)
+any_last p xs x is = of_or (or_cases (list_any p xs) (p x || false) (sym (list_any-append p xs (x ∷ [])) ∙ is))
   where
-    of_or : (p x ≡ true) ⊎ (false ≡ true) → (list_any p [] ≡ true) ⊎ (p x ≡ true)
-    of_or (inl now) = inr now
-    of_or (inr none) = absurd (cc)
-any_last p (y ∷ xs) x is = of_or (or_cases (p y) (list_any p (xs ++ x ∷ [])) is) (λ now. any_last p xs x now)
-  where
-    of_rest : (list_any p xs ≡ true) ⊎ (p x ≡ true) → (list_any p (y ∷ xs) ≡ true) ⊎ (p x ≡ true)
-    of_rest (inl now) = inl (or_right (p y) (list_any p xs) now)
-    of_rest (inr now) = inr now
-
-    of_or : (p y ≡ true) ⊎ (list_any p (xs ++ x ∷ []) ≡ true) → (list_any p (xs ++ x ∷ []) ≡ true → (list_any p xs ≡ true) ⊎ (p x ≡ true)) → (list_any p (y ∷ xs) ≡ true) ⊎ (p x ≡ true)
-    of_or (inl now) later = inl (or_left (p y) (list_any p xs) now)
-    of_or (inr now) later = of_rest (later now)
+    of_or : (list_any p xs ≡ true) ⊎ (p x || false ≡ true) → (list_any p xs ≡ true) ⊎ (p x ≡ true)
+    of_or (inl old) = inl old
+    of_or (inr new) = inr (or_none (p x) new)
 
 pub was_there : (tasks : TaskSet) (u t : TaskId) → set.contains (set.remove tasks u) t ≡ true → set.contains tasks t ≡ true
 was_there tasks u t is = (both (not (same_task t u)) (set.contains tasks t) (sym (in-less tasks u t) ∙ is)).1

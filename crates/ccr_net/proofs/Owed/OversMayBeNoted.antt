@@ -35,9 +35,8 @@ use Rattle.ccr_model.proofs.AllowedFirings.{fired_by_has}
 use Rattle.ccr_model.proofs.FiringPlacements.{firing_with_placement}
 use Rattle.ccr_model.proofs.Roots.{AreRooted-legal, IsAtWork, at_work_admitted, running_works, queued_works, not_over}
 use Rattle.ccr_base.proofs.SameNames.{same_task-is, same_task-self}
-use Rattle.ccr_model.proofs.TaskLists.{among_left, of_one}
+use Rattle.ccr_model.proofs.TaskLists.{among_left, of_one, has_at, not_more}
 use Rattle.ccr_model.proofs.WhoWasPut.{ArePlaced-legal, placement_by}
-use Rattle.ccr_model.proofs.TasksLeft.{has_task-append}
 use Rattle.ccr_places.specs.declared.notes.Note.{Note}
 use Rattle.ccr_places.specs.declared.notes.Note.TheVariants as notes
 use Rattle.ccr_places.specs.Arbiters.{ArbiterState}
@@ -70,6 +69,7 @@ use Rattle.ccr_net.proofs.Owed.OwedByOneOnce.{owed_by, owed_each, last_allowed}
 use Rattle.ccr_net.proofs.Owed.OwedByOneOnce as owed
 use Rattle.ccr_net.proofs.Parts.GotNamesStandAlone.{found_member}
 use Rattle.ccr_net.proofs.Parts.TasksStartOnce.{runs}
+use Rattle.ccr_net.proofs.Played.PlacesByNumber.{same_place-is}
 
 -- the root that the ask notes over
 abbrev pub ends_root : Ask → List TaskId
@@ -118,10 +118,6 @@ OversStand w lacks es = owed.OwedOnce places.Arbiter ends_root w lacks (may_over
 
 -- ---- a note at an arbiter
 
-not_one : (a b : Bool) → a ≡ false → b ≡ false → a || b ≡ false
-not_one true b none also = absurd (cc)
-not_one false b none also = also
-
 over_still : (st : ArbiterState) (u r : TaskId) → arbiters.may_over st r ≡ true → (arbiters.may_over (arbiters.after_over st u) r ≡ true) ⊎ (has_task (u ∷ []) r ≡ true)
 over_still st u r is = by (has_task (u ∷ []) r) refl
   where
@@ -130,7 +126,7 @@ over_still st u r is = by (has_task (u ∷ []) r) refl
 
     by : (b : Bool) → has_task (u ∷ []) r ≡ b → (arbiters.may_over (arbiters.after_over st u) r ≡ true) ⊎ (b ≡ true)
     by true e = inr refl
-    by false e = inl (let none : has_task (st.over ++ u ∷ []) r ≡ false = has_task-append st.over (u ∷ []) r ∙ not_one (has_task st.over r) (has_task (u ∷ []) r) (not_true _ parts.1) e in rw (parts.0, none) refl)
+    by false e = inl (let none : has_task (st.over ++ u ∷ []) r ≡ false = not_more st.over (u ∷ []) r (not_true _ parts.1) e in rw (parts.0, none) refl)
 
 over_kept : (st : ArbiterState) (ask : Ask) (note : Note) (r : TaskId) → arbiter_note st ask ≡ Some note → arbiters.may_over st r ≡ true → (arbiters.may_over (arbiters.after st note) r ≡ true) ⊎ (has_task (ends_root ask) r ≡ true)
 over_kept st (asks.Commit t ms) note r is stands = by_dead (arbiters.dead_by st) ((given_some (arbiters.may_commit st t) (commit_note t ms (arbiters.dead_by st) (notes.Fired t.id t.spot ms [])) note is).1)
@@ -253,10 +249,6 @@ none_over_first first part = by part.kind refl
 kept_admitted : (b : Bool) (place : InterleaveState) (r : TaskId) → IsKeptRoot b place r → interleaves.is_admitted place r ≡ true
 kept_admitted true place r is = or_left _ _ is
 kept_admitted false place r is = or_right (set.contains place.shared r) _ is
-
-pub first_has : (ts : List TaskId) (t : TaskId) → slice_get ts 0 ≡ Some t → has_task ts t ≡ true
-first_has [] t is = absurd (cc)
-first_has (x ∷ ts) t is = or_left (same_task t x) (has_task ts t) (let same : x ≡ t = cc in rw same (same_task-self t))
 
 module _ (w : Parts) (domains : HasDomains w) (n : ℕ) (lacks : Lacks) (es : List Entry) (holds : Holds w n lacks es) (noted : OversNoted es) where
   abbrev h : List Event
@@ -397,13 +389,6 @@ module _ (w : Parts) (domains : HasDomains w) (n : ℕ) (lacks : Lacks) (es : Li
       changes : notes_at (es ++ e ∷ []) (places.Arbiter i) ≡ with_note (same_place x.place (places.Arbiter i))
       changes = notes_at-push es e (places.Arbiter i) ∙ ap (λ pl. with_note (same_place pl (places.Arbiter i))) given.there
 
-      at_arbiter : (pl : Place) → same_place pl (places.Arbiter i) ≡ true → pl ≡ places.Arbiter i
-      at_arbiter (places.Arbiter k) is = ap places.Arbiter (same_number k i is)
-      at_arbiter (places.Queue k) is = absurd (cc)
-      at_arbiter (places.Site k j) is = absurd (cc)
-      at_arbiter (places.Port k) is = absurd (cc)
-      at_arbiter places.Meter is = absurd (cc)
-
       seen : (c : Bool) → same_place x.place (places.Arbiter i) ≡ c → may_over_at w (es ++ e ∷ []) i r ≡ over_of w i (slice_get w.arbiters i) (with_note c) r
       seen c at = ap (λ notes. over_of w i (slice_get w.arbiters i) notes r) (changes ∙ ap with_note at)
 
@@ -412,7 +397,7 @@ module _ (w : Parts) (domains : HasDomains w) (n : ℕ) (lacks : Lacks) (es : Li
       by true at = of_kept (part_kept w i (slice_get w.arbiters i) (notes_at es (places.Arbiter i)) x.ask e.note r gives stands)
         where
           gives : note_at_arbiter w i (slice_get w.arbiters i) (notes_at es (places.Arbiter i)) x.ask ≡ Some e.note
-          gives = rw (at_arbiter x.place at) at given.gives
+          gives = rw (same_place-is x.place (places.Arbiter i) at) at given.gives
 
           of_kept : (over_of w i (slice_get w.arbiters i) (notes_at es (places.Arbiter i) ++ e.note ∷ []) r ≡ true) ⊎ (has_task (ends_root x.ask) r ≡ true) → (may_over_at w (es ++ e ∷ []) i r ≡ true) ⊎ (true && has_task (ends_root x.ask) r ≡ true)
           of_kept (inl is) = inl (seen true at ∙ is)
@@ -482,7 +467,7 @@ module _ (w : Parts) (domains : HasDomains w) (n : ℕ) (lacks : Lacks) (es : Li
       facts = drop_allowed w now t d (last_allowed w now event (subst (IsLegal w) shows holds'.legal))
 
       work : IsAtWork now d
-      work = queued_works w now holds.legal facts.its.branch.queue d (first_has (queued w now facts.its.branch.queue) d facts.oldest)
+      work = queued_works w now holds.legal facts.its.branch.queue d (has_at (queued w now facts.its.branch.queue) 0 d facts.oldest)
 
       fires : IsFired now d
       fires = (ArePlaced-legal w now holds.legal).all_fired d work.put_so

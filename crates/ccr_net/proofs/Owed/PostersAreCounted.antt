@@ -32,6 +32,7 @@ use Rattle.ccr_net.proofs.Kept.WholeInvariant.{Holds, works_of, meter_at, meter_
 use Rattle.ccr_net.proofs.Owed.WorkKeepsStates.{is_scripted, LeavesBy, worked}
 use Rattle.ccr_net.proofs.Owed.EntriesAreMoves.{Move, settles, drops, admits, strikes, books, claims, fires, gives_up, goes, moved}
 use Rattle.ccr_net.proofs.Parts.NotesAnswerAsks.{Given}
+use Rattle.ccr_net.proofs.Played.PlacesByNumber.{same_place-is}
 
 abbrev pub scripted : Parts → Lacks → List Entry → ℕ → Bool
 scripted w lacks es a = is_scripted (works_of w lacks es a)
@@ -80,13 +81,6 @@ meter_stays m (asks.Unbook t) note gives is = absurd (cc)
 meter_stays m (asks.Put t) note gives is = absurd (cc)
 meter_stays m asks.Take note gives is = absurd (cc)
 
-at_meter : (pl : Place) → same_place pl places.Meter ≡ true → pl ≡ places.Meter
-at_meter places.Meter is = refl
-at_meter (places.Port p) is = absurd (cc)
-at_meter (places.Arbiter i) is = absurd (cc)
-at_meter (places.Site b k) is = absurd (cc)
-at_meter (places.Queue q) is = absurd (cc)
-
 left_same : (w : Parts) (es : List Entry) (e : Entry) (x : Asked) → Given w es e x → is_leave x.ask ≡ false → (meter_at w (es ++ e ∷ [])).left ≡ (meter_at w es).left
 left_same w es e x given none = by (same_place x.place places.Meter) refl
   where
@@ -101,7 +95,7 @@ left_same w es e x given none = by (same_place x.place places.Meter) refl
     by true at = ap (λ (m : MeterState). m.left) (changes ∙ ap now_at at) ∙ meter_stays (meter_at w es) x.ask e.note noted none
       where
         noted : meter_note (meter_at w es) x.ask ≡ Some e.note
-        noted = rw (at_meter x.place at) at given.gives
+        noted = rw (same_place-is x.place places.Meter at) at given.gives
 
 left_more : (w : Parts) (es : List Entry) (e : Entry) → (meter_at w (es ++ e ∷ [])).left ≤ (meter_at w es).left + 1
 left_more w es e = by (same_place e.place places.Meter) (ap (λ (m : MeterState). m.left) (meter_at-push w es e))

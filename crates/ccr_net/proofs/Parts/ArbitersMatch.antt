@@ -18,6 +18,7 @@ use Rattle.ccr_wiring.specs.Wirings.{Placement, placement}
 use Rattle.ccr_model.specs.declared.history.Event.{Event}
 use Rattle.ccr_model.specs.Firings.{Firing, firings, firing_of, fired_at}
 use Rattle.ccr_model.specs.Tasks.{fired_by, is_branch_where}
+use Rattle.ccr_model.proofs.Cutting.{fired_by-append}
 use Rattle.ccr_base.proofs.Booleans.{same_number, eq-self}
 use Rattle.ccr_places.specs.declared.notes.Note.{Note}
 use Rattle.ccr_places.specs.declared.notes.Note.TheVariants as notes
@@ -45,16 +46,13 @@ ArbitersMatch w h es = (i : ℕ) → fired_there (notes_at es (places.Arbiter i)
 abbrev pub FiresAlike : Parts → Entry → List Event → Type 0
 FiresAlike w e evs = (i : ℕ) → fired_there (note_at (places.Arbiter i) e) ≡ fired_by w (is_of i) evs
 
-fired_by-append : (w : Parts) (i : ℕ) (h evs : List Event) → fired_by w (is_of i) (h ++ evs) ≡ fired_by w (is_of i) h ++ fired_by w (is_of i) evs
-fired_by-append w i h evs = grind (arith, common_steps)
-
 pub ArbitersMatch-push : (w : Parts) (es : List Entry) (e : Entry) (h : List Event) → visible (es ++ e ∷ []) ≡ h → FiresAlike w e (event_of e) → ArbitersMatch w (visible es) es → ArbitersMatch w h (es ++ e ∷ [])
 ArbitersMatch-push w es e h shows alike match i =
     ap fired_there (notes_at-push es e (places.Arbiter i))
     ∙ both (notes_at es (places.Arbiter i)) (note_at (places.Arbiter i) e)
     ∙ ap (λ ts. ts ++ fired_there (note_at (places.Arbiter i) e)) (match i)
     ∙ ap (λ ts. fired_by w (is_of i) (visible es) ++ ts) (alike i)
-    ∙ sym (fired_by-append w i (visible es) (event_of e))
+    ∙ sym (fired_by-append w (is_of i) (visible es) (event_of e))
     ∙ ap (fired_by w (is_of i)) (sym (visible-push es e) ∙ shows)
   where
     both : (xs ys : List Note) → fired_there (xs ++ ys) ≡ fired_there xs ++ fired_there ys

@@ -1,10 +1,10 @@
 -- On a throttle queue each task that the rule counts is booked or queued, so where an attempt is booked there is room for its firing.
-use Rattle.std.proofs.Common.{◌≢◌, ◌⊎◌, zero, suc, inl, inr, ◌≡◌, ◌<◌, ℕ, Bool, true, false, not, ◌||◌, List, [], ◌∷◌, ◌++◌, drop, length, map, filter, Option, Some, None, refl, sym, arith, ap, ◌∙◌, subst, append-nil}
+use Rattle.std.proofs.Common.{◌≢◌, ◌⊎◌, inl, inr, ◌≡◌, ◌<◌, ℕ, Bool, true, false, not, ◌||◌, List, [], ◌∷◌, ◌++◌, drop, length, map, Option, Some, None, refl, sym, arith, ap, ◌∙◌, subst, append-nil, take}
 use Rattle.std.specs.Prelude.{◌==◌, if◌then◌else◌}
 use Rattle.std.specs.FinSet as set
 use Rattle.std.specs.Option.{option_map_or}
-use Rattle.std.proofs.lemmas.Grind.{common_steps}
 use Rattle.std.proofs.lemmas.Bool.Decides.{nat_tests}
+use Rattle.std.proofs.lemmas.List.{take-append-drop}
 use Rattle.ccr_base.specs.declared.names.MsgId.{MsgId}
 use Rattle.ccr_base.specs.declared.names.Spot.{Spot}
 use Rattle.ccr_base.specs.declared.names.Spot.TheVariants.{Branch, Site}
@@ -25,14 +25,15 @@ use Rattle.ccr_model.specs.Tasks.{fired_by, is_branch_where, is_for_queue, comin
 use Rattle.ccr_base.proofs.Booleans.{same_number, eq-self, refuted, no_both, or_right}
 use Rattle.ccr_model.proofs.Allowing.{OneName-legal}
 use Rattle.ccr_model.proofs.AllowedFirings.{fired_by_named}
-use Rattle.ccr_model.proofs.Members.{Among, Among-either}
-use Rattle.ccr_model.proofs.OneMoreEvent.{firings-push, put-push, cut-push}
+use Rattle.ccr_model.proofs.Members.{Among, Among-either, Among-mapped, Among-right}
+use Rattle.ccr_model.proofs.OneMoreEvent.{put-push, cut-push}
 use Rattle.ccr_base.proofs.SameNames.{same_task-is, same_task-self, same_task-sym}
 use Rattle.ccr_model.proofs.TasksLeft.{of_without, out_left, distinct-filter}
-use Rattle.ccr_model.proofs.TaskLists.{to_filter, to_without, not_within, of_more, of_one, out_right}
+use Rattle.ccr_model.proofs.TaskLists.{to_filter, to_without, not_within, of_more, of_one, out_right, task_among, named_has}
 use Rattle.ccr_model.proofs.WhoWasPut.{QueuedFacts-queued}
 use Rattle.ccr_model.proofs.TasksOnce.{fired_once, some_once, some_of_all}
 use Rattle.ccr_model.proofs.LegalIsCovered.{no_member}
+use Rattle.ccr_model.proofs.Cutting.{fired_by-fire, fired_by-same}
 use Rattle.ccr_places.specs.declared.notes.Note.{Note}
 use Rattle.ccr_places.specs.declared.notes.Note.TheVariants as notes
 use Rattle.ccr_places.specs.Queues.{QueueState, Queued, queued_task}
@@ -59,33 +60,19 @@ pub record BookingsMatch (w : Parts) (h : List Event) (queue : ℕ → QueueStat
 
 -- ---- who was fired for the queue
 
-fired_for-append : (w : Parts) (q : ℕ) (h evs : List Event) → fired_for w (h ++ evs) q ≡ fired_for w h q ++ fired_for w evs q
-fired_for-append w q h evs = grind (arith, common_steps)
-
 -- an event that fires nothing
 fired_for-same : (w : Parts) (h : List Event) (e : Event) (q : ℕ) → firing_of e ≡ [] → fired_for w (h ++ e ∷ []) q ≡ fired_for w h q
-fired_for-same w h e q none = ap (λ fs. map (λ (f : Firing). f.task) (filter (λ (f : Firing). is_branch_where w (is_for q) f.spot) fs)) (firings-push h e ∙ ap (λ fs. firings h ++ fs) none ∙ append-nil (firings h))
+fired_for-same w h e q none = fired_by-same w (is_for q) h e none
 
 fired_for-fire : (w : Parts) (h : List Event) (t : TaskId) (spot : Spot) (ms : List MsgId) (cs : List TaskId) (q : ℕ) → fired_for w (h ++ events.Fire t spot ms cs ∷ []) q ≡ fired_for w h q ++ (if is_branch_where w (is_for q) spot then t ∷ [] else [])
-fired_for-fire w h t spot ms cs q = fired_for-append w q h (events.Fire t spot ms cs ∷ []) ∙ ap (λ ts. fired_for w h q ++ ts) (by (is_branch_where w (is_for q) spot))
-  where
-    by : (b : Bool) → map (λ (f : Firing). f.task) (if b then (record { task = t; spot = spot; messages = ms; cuts = cs }) ∷ [] else []) ≡ (if b then t ∷ [] else [])
-    by true = refl
-    by false = refl
+fired_for-fire w h t spot ms cs q = fired_by-fire w (is_for q) h t spot ms cs
 
 among_drop : {X : Type 0} (n : ℕ) (xs : List X) (x : X) → Among x (drop n xs) → Among x xs
-among_drop zero xs x is = is
-among_drop (suc n) [] x is = is
-among_drop (suc n) (y ∷ xs) x is = inr (among_drop n xs x is)
-
-listed_task : (xs : List Queued) (x : Queued) → Among x xs → has_task (map queued_task xs) x.task ≡ true
-listed_task [] x is = absurd is
-listed_task (y ∷ xs) x (inl e) = ap (λ b. b || has_task (map queued_task xs) x.task) (ap (λ (z : Queued). same_task x.task z.task) (sym e) ∙ same_task-self x.task)
-listed_task (y ∷ xs) x (inr more) = or_right (same_task x.task y.task) _ (listed_task xs x more)
+among_drop n xs x is = subst (Among x) (take-append-drop n xs) (Among-right x (take n xs) (drop n xs) is)
 
 -- who is queued was put
 queued_put : (w : Parts) (h : List Event) (queue : ℕ → QueueState) (q : ℕ) (x : Queued) → QueuesMatch w h queue → Among x (queue q).queued → has_task (put h) x.task ≡ true
-queued_put w h queue q x listed is = (QueuedFacts-queued w h q x.task (ap (λ ts. has_task ts x.task) (sym (listed.queued_so q)) ∙ listed_task (queue q).queued x is)).put_so
+queued_put w h queue q x listed is = (QueuedFacts-queued w h q x.task (ap (λ ts. has_task ts x.task) (sym (listed.queued_so q)) ∙ named_has queued_task (queue q).queued x is)).put_so
 
 -- ---- the notes of a queue
 
@@ -209,12 +196,7 @@ BookingsMatch-put w h queue queue' q t d may unput uncut changes match = record 
 -- ---- room
 
 queued_as : (xs : List Queued) (t : TaskId) → has_task (map queued_task xs) t ≡ true → (x : Queued) × Among x xs × (x.task ≡ t)
-queued_as [] t is = absurd (cc)
-queued_as (y ∷ xs) t is = of_test (same_task t y.task) refl is (queued_as xs t)
-  where
-    of_test : (b : Bool) → same_task t y.task ≡ b → b || has_task (map queued_task xs) t ≡ true → (has_task (map queued_task xs) t ≡ true → (x : Queued) × Among x xs × (x.task ≡ t)) → (x : Queued) × Among x (y ∷ xs) × (x.task ≡ t)
-    of_test true e now rest = (y, inl refl, sym (same_task-is t y.task e))
-    of_test false e now rest = let found = rest now in (found.0, inr found.1, found.2)
+queued_as xs t is = Among-mapped queued_task xs t (task_among (map queued_task xs) t is)
 
 -- a task that the rule counts is booked or queued, as one that doesn't resume
 coming_kept : (w : Parts) (h : List Event) (queue : ℕ → QueueState) (q : ℕ) (u : TaskId) → IsLegal w h → QueuesMatch w h queue → BookingsMatch w h queue → has_task (coming w h q) u ≡ true → IsKept (queue q).fresh (queue q).queued u
@@ -307,11 +289,7 @@ Stays-note queue queue' q note name changes keeps k is = rw (changes k) (by (q =
     by false = is
 
 other_name : (t name : TaskId) → t ≢ name → same_task name t ≡ false
-other_name t name other = of_test (same_task name t) refl
-  where
-    of_test : (b : Bool) → same_task name t ≡ b → same_task name t ≡ false
-    of_test false e = e
-    of_test true e = absurd (other (sym (same_task-is name t e)))
+other_name t name other = refuted (same_task name t) (λ e. other (sym (same_task-is name t e)))
 
 pub Stays-unbook : (queue queue' : ℕ → QueueState) (q : ℕ) (t name : TaskId) → QueueChanges queue queue' q (notes.Unbook t) → t ≢ name → Stays queue queue' name
 Stays-unbook queue queue' q t name changes other = Stays-note queue queue' q (notes.Unbook t) name changes (λ k is. in-less (queue k).fresh t name ∙ rw (other_name t name other, is) refl)

@@ -28,18 +28,19 @@ use Rattle.ccr_model.specs.Rules.{is_concurrent_task, is_oldest_waiting, may_adm
 use Rattle.ccr_model.specs.TaskData.{placement_of}
 use Rattle.ccr_model.specs.Tasks.{is_interleave, is_teardown, is_concurrent, is_branch_where, fired_by, waiting, admitted, is_over, is_of_domain}
 use Rattle.ccr_model.proofs.Allowing.{OneName-legal}
-use Rattle.ccr_base.proofs.Booleans.{both, refuted, no_both, same_number, eq-self, and_false, or_right}
+use Rattle.ccr_base.proofs.Booleans.{both, refuted, no_both, same_number, eq-self, and_false}
 use Rattle.ccr_model.proofs.FiredTasks.{IsFired, placement_stays}
 use Rattle.ccr_model.proofs.AllowedFirings.{firing_named-new, FiresSo-allowed, BranchFacts-where, WaitingFacts, WaitingFacts-waiting}
-use Rattle.ccr_model.proofs.Members.{Among, Among-either}
+use Rattle.ccr_model.proofs.Members.{Among, Among-either, all_from, index_of}
 use Rattle.ccr_model.proofs.OneMoreEvent.{ever_admitted-push}
 use Rattle.ccr_model.proofs.Roots.{AdmittedFacts-admitted}
 use Rattle.ccr_base.proofs.SameNames.{same_task-is, same_task-self}
-use Rattle.ccr_model.proofs.TaskLists.{without_other, without_first, of_more, of_one, has_oldest, none_gone}
+use Rattle.ccr_model.proofs.TaskLists.{without_other, without_first, of_more, of_one, has_oldest, none_gone, all_gone, no_members, has_at}
 use Rattle.ccr_model.proofs.WhoWasPut.{placement_by}
-use Rattle.ccr_model.proofs.TasksOnce.{waiting_once, waits_in_one}
+use Rattle.ccr_model.proofs.TasksOnce.{waiting_once, waits_in_one, waiting_apart}
 use Rattle.ccr_model.specs.Consequences.{are_distinct_tasks}
 use Rattle.ccr_model.proofs.WaitingTasks.{waiting-admit}
+use Rattle.ccr_model.proofs.Cutting.{fired_by-fire, fired_by-same}
 use Rattle.ccr_places.specs.declared.notes.Note.{Note}
 use Rattle.ccr_places.specs.declared.notes.Note.TheVariants as notes
 use Rattle.ccr_places.specs.Interleaves.{InterleaveState, Waiting, group_among, group_at, waiting_task}
@@ -51,7 +52,7 @@ use Rattle.ccr_runs.specs.Places.{branches_from, groups_in}
 use Rattle.ccr_runs.specs.EntryRuns.{same_place, domain_at}
 use Rattle.ccr_net.proofs.Kept.EventsAreAllowed.{refused_pass}
 use Rattle.ccr_net.proofs.Parts.TasksAreBookedOnce.{in-more, in-less}
-use Rattle.ccr_net.proofs.Parts.EventsChangeDomains.{spot_stays, fired_by-fire, fired_by-same, waiting-same, waiting-fire, waiting_apart, all_gone, admitted_before, concurrent_stays}
+use Rattle.ccr_net.proofs.Parts.EventsChangeDomains.{spot_stays, waiting-same, waiting-fire, admitted_before, concurrent_stays}
 
 -- a teardown branch of the domain
 abbrev pub tears : ℕ → Placement → Bool
@@ -212,7 +213,7 @@ DomainMatches-fire w h t b ms i s place legal allowed sits within match = record
     here = rw sits within
 
     left : (c : Bool) → map waiting_task (if c then [] else place.waiting) ≡ without (waiting w h i) (if c then map waiting_task place.waiting else [])
-    left true = sym (ap (without (waiting w h i)) match.waiting_so ∙ all_gone (waiting w h i))
+    left true = sym (ap (without (waiting w h i)) match.waiting_so ∙ all_gone (waiting w h i) (waiting w h i) (λ u is. is))
     left false = match.waiting_so ∙ sym (none_gone (waiting w h i))
 
     fresh : has_task (fired h) t ≡ false
@@ -274,12 +275,10 @@ oldest w h i place x others legal list match =
     inside r q is = cc
 
 all_pass : (p : TaskId → Bool) (ts : List TaskId) → ((u : TaskId) → has_task ts u ≡ true → p u ≡ true) → list_all p ts ≡ true
-all_pass p [] all = refl
-all_pass p (t ∷ ts) all = rw (all t (ap (λ b. b || has_task ts t) (same_task-self t))) (all_pass p ts (λ u is. all u (or_right (same_task u t) (has_task ts u) is)))
+all_pass p ts all = all_from p ts (λ u is. let at = index_of ts u is in all u (has_at ts at.0 u at.1))
 
 nobody : (ts : List TaskId) → ((u : TaskId) → has_task ts u ≡ true → ⊥) → is_none_of ts ≡ true
-nobody [] none = refl
-nobody (t ∷ ts) none = absurd (none t (ap (λ b. b || has_task ts t) (same_task-self t)))
+nobody ts none = ap is_none_of (no_members ts none)
 
 empty_out : (tasks : TaskSet) (t : TaskId) → (set.len tasks == 0) ≡ true → set.contains tasks t ≡ true → ⊥
 empty_out tasks t none is = let some = len-there tasks t is in let zero_so : set.len tasks ≡ 0 = grind (arith, nat_tests, none) in absurd (omega (arith, some, zero_so))

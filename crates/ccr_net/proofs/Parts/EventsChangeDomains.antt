@@ -1,8 +1,8 @@
 -- Who waits in a domain of Interleaves after one more event, and who of its roots is left.
-use Rattle.std.proofs.Common.{◌≡◌, ℕ, Bool, true, false, ◌||◌, List, [], ◌∷◌, ◌++◌, map, filter, flat_map, Option, option_map, Some, None, refl, sym, arith, ap, ◌∙◌, subst, append-nil, append_assoc}
+use Rattle.std.proofs.Common.{◌≡◌, ℕ, Bool, true, false, ◌||◌, List, [], ◌∷◌, ◌++◌, flat_map, Some, refl, sym, arith, ap, ◌∙◌, subst, append-nil, append_assoc}
 use Rattle.std.specs.Prelude.{◌==◌, if◌then◌else◌}
 use Rattle.std.specs.List.{list_any}
-use Rattle.std.specs.Option.{option_map_or}
+use Rattle.std.specs.Option.{option_map_or, option_or}
 use Rattle.std.proofs.lemmas.Grind.{common_steps}
 use Rattle.ccr_base.specs.declared.names.MsgId.{MsgId}
 use Rattle.ccr_base.specs.declared.names.Spot.{Spot}
@@ -12,7 +12,7 @@ use Rattle.ccr_wiring.specs.declared.parts.Parts.{Parts}
 use Rattle.ccr_wiring.specs.Wirings.{Placement}
 use Rattle.ccr_model.specs.declared.history.Event.{Event}
 use Rattle.ccr_model.specs.declared.history.Event.TheVariants as events
-use Rattle.ccr_model.specs.Firings.{Firing, firing_of, firings, firing_named, fired, cut, ever_admitted, admitted_by, last_by, last_segments, spot_of}
+use Rattle.ccr_model.specs.Firings.{Firing, firing_of, firings, fired, cut, ever_admitted, admitted_by, last_by, last_segments, spot_of}
 use Rattle.ccr_model.specs.Sites.{root_of}
 use Rattle.ccr_model.specs.Interleaves.{is_placement_in}
 use Rattle.ccr_model.specs.Legal.{IsAllowed, IsLegal}
@@ -20,43 +20,26 @@ use Rattle.ccr_model.specs.Rules.{is_concurrent_task}
 use Rattle.ccr_model.specs.Tasks.{is_branch_where, fired_by, waiting, admitted, is_over, is_of_domain}
 use Rattle.ccr_model.proofs.Allowing.{OneName-legal}
 use Rattle.ccr_model.proofs.ExclusiveRootsAreAlone.{over_stays, lasts_fired, ever_admitted_fired}
-use Rattle.ccr_base.proofs.Booleans.{refuted, no_both, or_left, or_right, eq-self}
-use Rattle.ccr_model.proofs.Cutting.{fired_by-append, cut_by, cut_fired}
+use Rattle.ccr_base.proofs.Booleans.{refuted, no_both, or_left, or_right}
+use Rattle.ccr_model.proofs.Cutting.{cut_by, cut_fired, fired_by-fire, fired_by-same}
 use Rattle.ccr_model.proofs.FiredTasks.{IsFired, fired_has, placement_stays}
 use Rattle.ccr_model.proofs.AllowedFirings.{FiresSo-allowed}
 use Rattle.ccr_model.proofs.OneMoreEvent.{firings-push, ever_admitted-push, cut-push, last-push}
 use Rattle.ccr_model.proofs.Roots.{AdmittedFacts-admitted, admitted_whole}
 use Rattle.ccr_base.proofs.SameNames.{same_task-is, same_task-self}
-use Rattle.ccr_model.proofs.Stable.{firing_named-append}
+use Rattle.ccr_model.proofs.Stable.{spot_of-append}
 use Rattle.ccr_model.proofs.TasksLeft.{without_both}
-use Rattle.ccr_model.proofs.TaskLists.{without-append, without_none, not_more, not_within}
-use Rattle.ccr_model.proofs.TasksOnce.{waits_in_one}
+use Rattle.ccr_model.proofs.TaskLists.{without-append, not_more, not_within}
 
 -- ---- where tasks fired
 
 -- a firing's spot stays
 pub spot_stays : (h es : List Event) (t : TaskId) (s : Spot) → spot_of h t ≡ Some s → spot_of (h ++ es) t ≡ Some s
-spot_stays h es t s is = of_option (firing_named h t) refl is
-  where
-    of_option : (o : Option Firing) → firing_named h t ≡ o → option_map (λ (f : Firing). f.spot) o ≡ Some s → spot_of (h ++ es) t ≡ Some s
-    of_option None e none = absurd (cc)
-    of_option (Some f) e some = ap (option_map (λ (g : Firing). g.spot)) (firing_named-append h es t f e) ∙ some
+spot_stays h es t s is = spot_of-append h es t ∙ ap (λ o. option_or o (spot_of es t)) is
 
 -- whom a firing cuts had fired
 pub cuts_fired : (w : Parts) (h : List Event) (t : TaskId) (s : Spot) (ms : List MsgId) (cs : List TaskId) → IsLegal w h → IsAllowed w h (events.Fire t s ms cs) → (u : TaskId) → has_task cs u ≡ true → IsFired h u
 cuts_fired w h t s ms cs legal allowed u is = let waits = cut_by w h t s ms cs (OneName-legal w h legal) allowed u (subst (λ ts. has_task ts u ≡ true) (sym (append-nil cs)) is) in (waits.1.firing, waits.1.is_firing)
-
--- ---- who fired at branches of some kind
-
-pub fired_by-fire : (w : Parts) (test : Placement → Bool) (h : List Event) (t : TaskId) (spot : Spot) (ms : List MsgId) (cs : List TaskId) → fired_by w test (h ++ events.Fire t spot ms cs ∷ []) ≡ fired_by w test h ++ (if is_branch_where w test spot then t ∷ [] else [])
-fired_by-fire w test h t spot ms cs = fired_by-append w test h (events.Fire t spot ms cs ∷ []) ∙ ap (λ ts. fired_by w test h ++ ts) (by (is_branch_where w test spot))
-  where
-    by : (b : Bool) → map (λ (f : Firing). f.task) (if b then (record { task = t; spot = spot; messages = ms; cuts = cs }) ∷ [] else []) ≡ (if b then t ∷ [] else [])
-    by true = refl
-    by false = refl
-
-pub fired_by-same : (w : Parts) (test : Placement → Bool) (h : List Event) (e : Event) → firing_of e ≡ [] → fired_by w test (h ++ e ∷ []) ≡ fired_by w test h
-fired_by-same w test h e none = ap (λ fs. map (λ (f : Firing). f.task) (filter (λ (f : Firing). is_branch_where w test f.spot) fs)) (firings-push h e ∙ ap (λ fs. firings h ++ fs) none ∙ append-nil (firings h))
 
 -- ---- who waits
 
@@ -95,23 +78,6 @@ waiting-fire w h t spot ms cs i legal allowed =
     by : (b : Bool) → without (if b then t ∷ [] else []) ((ever_admitted h ++ cut h) ++ cs) ≡ (if b then t ∷ [] else [])
     by true = rw out refl
     by false = refl
-
--- those who wait in another domain stay
-pub waiting_apart : (w : Parts) (h : List Event) (i j : ℕ) → IsLegal w h → (i == j) ≡ false → without (waiting w h j) (waiting w h i) ≡ waiting w h j
-waiting_apart w h i j legal other = without_none (waiting w h j) (waiting w h i) (λ u is. refuted (has_task (waiting w h i) u) (λ also. differ (waits_in_one w h i j u legal also is)))
-  where
-    differ : i ≡ j → ⊥
-    differ same = let self : (i == j) ≡ true = subst (λ k. (i == k) ≡ true) same (eq-self i) in absurd (cc)
-
-pub all_gone : (ts : List TaskId) → without ts ts ≡ []
-all_gone ts = none ts (λ u is. is)
-  where
-    none : (us : List TaskId) → ((u : TaskId) → has_task us u ≡ true → has_task ts u ≡ true) → without us ts ≡ []
-    none [] within = refl
-    none (u ∷ us) within = rw (within u (here u), none us (λ v is. within v (or_right (same_task v u) (has_task us v) is))) refl
-      where
-        here : (v : TaskId) → has_task (v ∷ us) v ≡ true
-        here v = ap (λ b. b || has_task us v) (same_task-self v)
 
 -- ---- whose root is left
 

@@ -23,10 +23,11 @@ use Rattle.ccr_model.specs.Selection.{is_selection_of, are_split}
 use Rattle.ccr_model.specs.Firings.{fired}
 use Rattle.ccr_model.specs.Posts.{posts, held}
 use Rattle.ccr_base.proofs.Booleans.{or_left}
-use Rattle.ccr_model.proofs.Members.{Among, Among-map}
+use Rattle.ccr_model.proofs.Members.{Among, Among-map, Among-mapped}
 use Rattle.ccr_model.proofs.PostNames.{AreNamed}
 use Rattle.ccr_model.proofs.OneMoreEvent.{fired-fire}
-use Rattle.ccr_base.proofs.SameNames.{same_task-is}
+use Rattle.ccr_base.specs.Names.{same_message}
+use Rattle.ccr_base.proofs.SameNames.{same_task-is, same_message-self, same_lists-self}
 use Rattle.ccr_model.proofs.MessageNames.{any_fits}
 use Rattle.ccr_model.proofs.Allowing.{split_both}
 use Rattle.ccr_places.specs.Ports.{PortState}
@@ -36,7 +37,7 @@ use Rattle.ccr_claim.specs.declared.asks.Asked.{Asked}
 use Rattle.ccr_claim.specs.Attempts.{had_in}
 use Rattle.ccr_actor.specs.Actors.{State, name_at}
 use Rattle.ccr_net.proofs.Parts.PortsAndHandsMatch.{PortsMatch, ActorMatches, put_in, puts_in}
-use Rattle.ccr_net.proofs.Parts.GotNamesStandAlone.{Among-mapped, sorted_among, among_sorted, selection_slots, same_lists-self, had_at-is, held_had}
+use Rattle.ccr_net.proofs.Parts.GotNamesStandAlone.{sorted_among, among_sorted, selection_slots, had_at-is, held_had}
 use Rattle.ccr_net.proofs.Parts.PhasesFitPlans.{Fits, slot_had, lower, higher}
 use Rattle.ccr_net.proofs.Kept.WhatWiringsHave.{IsEven}
 
@@ -124,7 +125,7 @@ chosen_ports w h port a st named match own fresh (Gather total first second) eve
 
     split : are_split (held h first) (held h second) (names_of (got.one.messages ++ got.other.messages)) ≡ true
     split = subst (λ xs. are_split (held h first) (held h second) (names_of (xs ++ got.other.messages)) ≡ true) (taken_first got.one got.is_one got.one_any first got.one_port) (subst (λ ys. are_split (held h first) (held h second) (names_of (take (length got.one.messages) (held h first) ++ ys)) ≡ true) (taken_first got.other got.is_other got.other_any second got.other_port) (split_both (held h first) (held h second) (length got.one.messages) (length got.other.messages)))
-chosen_ports w h port a st named match own fresh (Slots all) even fits = rw (selection_slots w h port a st named match own fresh all (λ slot is. (from_sorted slot (among_sorted all slot is), even slot is))) (same_lists-self (names_of (flat_map (had_at (had_in st.phase)) (ports_in (Slots all)))))
+chosen_ports w h port a st named match own fresh (Slots all) even fits = rw (selection_slots w h port a st named match own fresh all (λ slot is. (from_sorted slot (among_sorted all slot is), even slot is))) (same_lists-self same_message same_message-self (names_of (flat_map (had_at (had_in st.phase)) (ports_in (Slots all)))))
   where
     from_sorted : (slot : Slot) → Among slot (sort_slots all) → (d : Had) × Among d (had_in st.phase) × (d.slot ≡ slot)
     from_sorted slot is = Among-mapped slot_had (had_in st.phase) slot (subst (Among slot) (sym fits ∙ append-nil (map slot_had (had_in st.phase))) is)

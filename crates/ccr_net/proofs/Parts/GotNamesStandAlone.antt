@@ -7,16 +7,17 @@ use Rattle.ccr_base.specs.declared.names.MsgId.{MsgId}
 use Rattle.ccr_base.specs.declared.names.TaskId.{TaskId}
 use Rattle.ccr_base.specs.declared.patterns.Slot.{Slot}
 use Rattle.ccr_base.specs.Selection.{selection, fitting, is_choosable}
-use Rattle.ccr_base.specs.Names.{same_task, same_message, has_task, has_message, same_lists}
+use Rattle.ccr_base.specs.Names.{same_task, has_task, has_message}
 use Rattle.ccr_wiring.specs.declared.parts.Parts.{Parts}
 use Rattle.ccr_model.specs.declared.history.Event.{Event}
 use Rattle.ccr_model.specs.Posts.{posts, held}
 use Rattle.ccr_model.specs.Firings.{fired}
 use Rattle.ccr_model.specs.Selection.{selection_of_slots}
 use Rattle.ccr_base.proofs.Booleans.{same_number, eq-self, or_left, or_right, either}
-use Rattle.ccr_model.proofs.Members.{Among}
+use Rattle.ccr_model.proofs.Members.{Among, found_among, find_passes}
 use Rattle.ccr_model.proofs.PostNames.{AreNamed}
-use Rattle.ccr_base.proofs.SameNames.{same_task-is, same_message-self}
+use Rattle.ccr_model.proofs.QuietAllowsNone.{find_among}
+use Rattle.ccr_base.proofs.SameNames.{same_task-is}
 use Rattle.ccr_places.specs.declared.claims.StandingClaim.{StandingClaim}
 use Rattle.ccr_places.specs.Ports.{PortState, first_fitting}
 use Rattle.ccr_claim.specs.declared.plan.Had.{Had}
@@ -31,26 +32,14 @@ use Rattle.ccr_net.proofs.Parts.NamesStandAtOnePort.{held_apart, held_posted}
 -- ---- lists
 
 pub found_member : {X : Type 0} (t : X → Bool) (xs : List X) (x : X) → find t xs ≡ Some x → Among x xs × (t x ≡ true)
-found_member t [] x is = absurd (cc)
-found_member t (y ∷ xs) x is = by (t y) refl is (found_member t xs x)
-  where
-    by : (b : Bool) → t y ≡ b → (if b then Some y else find t xs) ≡ Some x → (find t xs ≡ Some x → Among x xs × (t x ≡ true)) → Among x (y ∷ xs) × (t x ≡ true)
-    by true e now rest = let same : x ≡ y = cc in (inl same, ap t same ∙ e)
-    by false e now rest = (inr (rest now).0, (rest now).1)
+found_member t xs x is = (found_among t xs x is, find_passes t xs x is)
 
 pub found_some : {X : Type 0} (t : X → Bool) (xs : List X) (x : X) → Among x xs → t x ≡ true → (y : X) × (find t xs ≡ Some y)
-found_some t [] x is passes = absurd is
-found_some {X} t (y ∷ xs) x is passes = by (t y) refl is (λ among. found_some t xs x among passes)
+found_some {X} t xs x is passes = by (find t xs) refl
   where
-    by : (b : Bool) → t y ≡ b → Among x (y ∷ xs) → (Among x xs → (z : X) × (find t xs ≡ Some z)) → (z : X) × ((if b then Some y else find t xs) ≡ Some z)
-    by true e among rest = (y, refl)
-    by false e (inl same) rest = absurd (let now : t y ≡ true = ap t (sym same) ∙ passes in cc)
-    by false e (inr among) rest = rest among
-
-pub Among-mapped : {X Y : Type 0} (f : X → Y) (xs : List X) (y : Y) → Among y (map f xs) → (x : X) × Among x xs × (f x ≡ y)
-Among-mapped f [] y is = absurd is
-Among-mapped f (x ∷ xs) y (inl e) = (x, inl refl, sym e)
-Among-mapped f (x ∷ xs) y (inr is) = let found = Among-mapped f xs y is in (found.0, inr found.1, found.2)
+    by : (o : Option X) → find t xs ≡ o → (y : X) × (find t xs ≡ Some y)
+    by None e = absurd (find_among t xs x is passes e)
+    by (Some y) e = (y, e)
 
 -- sorting keeps the members
 insert_among : (slot other : Slot) (slots : List Slot) → Among other (insert_slot slot slots) → (other ≡ slot) ⊎ Among other slots
@@ -258,7 +247,3 @@ module _ (w : Parts) (h : List Event) (port : ℕ → PortState) (a : ℕ) (st :
     where
       of_had : (d : Had) × Among d (had_in st.phase) × (d.slot ≡ slot) → slot.least ≡ slot.most → selection slot (held h slot.port) ≡ Some (had_at (had_in st.phase) slot.port)
       of_had found even = subst (λ (s : Slot). selection s (held h s.port) ≡ Some (had_at (had_in st.phase) s.port)) found.2 (selection_had found.0 found.1 (subst (λ (s : Slot). s.least ≡ s.most) (sym found.2) even) ∙ ap Some (sym (had_at-is found.0 found.1)))
-
-pub same_lists-self : (names : List MsgId) → same_lists same_message names names ≡ true
-same_lists-self [] = refl
-same_lists-self (name ∷ names) = rw (same_message-self name, same_lists-self names) refl

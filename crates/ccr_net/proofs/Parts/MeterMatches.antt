@@ -8,8 +8,9 @@ use Rattle.ccr_wiring.specs.declared.parts.Parts.{Parts}
 use Rattle.ccr_model.specs.declared.history.Event.{Event}
 use Rattle.ccr_model.specs.Posts.{posts_of_tasks}
 use Rattle.ccr_base.proofs.Booleans.{same_number, eq-self}
-use Rattle.ccr_base.proofs.SameNames.{same_task-is, same_task-self}
-use Rattle.ccr_model.proofs.TaskLists.{to_without}
+use Rattle.ccr_base.proofs.SameNames.{same_task-is}
+use Rattle.ccr_model.proofs.TaskLists.{to_without, none_gone}
+use Rattle.ccr_model.proofs.TasksLeft.{less_left}
 use Rattle.ccr_actor.specs.Actors.{Work, lines, round, taking, playing, posting, shedding, resting}
 
 -- ---- how many of the first numbers pass
@@ -53,24 +54,7 @@ count-some (suc n) a f low is = by (a == n) refl (λ below. count-some n a f bel
     by false e rest = let below : a < n = grind (arith, nat_tests, e, low) in let old = rest below in omega (arith, old)
 
 one_less : (ts : List TaskId) (t : TaskId) → has_task ts t ≡ true → length (without ts (t ∷ [])) + 1 ≤ length ts
-one_less [] t is = absurd (cc)
-one_less (x ∷ ts) t is = by (same_task t x) refl is (one_less ts t) (fewer ts)
-  where
-    fewer : (us : List TaskId) → length (without us (t ∷ [])) ≤ length us
-    fewer [] = omega arith
-    fewer (u ∷ us) = grind (arith, fewer us)
-
-    swapped : (b : Bool) → same_task t x ≡ b → same_task x t ≡ b
-    swapped true e = let one : t ≡ x = same_task-is t x e in rw (one, same_task-self x) refl
-    swapped false e = of_test (same_task x t) refl
-      where
-        of_test : (c : Bool) → same_task x t ≡ c → same_task x t ≡ false
-        of_test false f = f
-        of_test true f = let one : x ≡ t = same_task-is x t f in let self : same_task t x ≡ true = rw one (same_task-self t) in absurd (cc)
-
-    by : (b : Bool) → same_task t x ≡ b → has_task (x ∷ ts) t ≡ true → (has_task ts t ≡ true → length (without ts (t ∷ [])) + 1 ≤ length ts) → length (without ts (t ∷ [])) ≤ length ts → length (without (x ∷ ts) (t ∷ [])) + 1 ≤ length (x ∷ ts)
-    by true e now rest low = rw (swapped true e) (omega (arith, low))
-    by false e now rest low = let older : has_task ts t ≡ true = grind (arith, e, now) in let le = rest older in rw (swapped false e) (omega (arith, le))
+one_less ts t is = subst (λ us. length (without ts (t ∷ [])) + 1 ≤ length us) (none_gone ts) (less_left ts [] t is refl)
 
 -- different members, one for each number that passes
 pub count-within : (n : ℕ) (f : ℕ → Bool) (t : ℕ → TaskId) (ts : List TaskId) → ((a : ℕ) → a < n → f a ≡ true → has_task ts (t a) ≡ true) → ((a b : ℕ) → f a ≡ true → f b ≡ true → t a ≡ t b → a ≡ b) → count n f ≤ length ts

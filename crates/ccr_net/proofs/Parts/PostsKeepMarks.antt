@@ -3,6 +3,7 @@ use Rattle.std.proofs.Common.{◌≡◌, ◌≤◌, ℕ, zero, suc, ◌-◌, Boo
 use Rattle.std.specs.Prelude.{if◌then◌else◌, nat_lt}
 use Rattle.std.proofs.lemmas.Grind.{common_steps}
 use Rattle.std.proofs.lemmas.Bool.Decides.{nat_tests}
+use Rattle.std.proofs.lemmas.List.{take-append-le}
 use Rattle.ccr_base.specs.declared.messages.Msg.{Msg}
 use Rattle.ccr_base.specs.declared.names.MsgId.{MsgId}
 use Rattle.ccr_base.specs.declared.patterns.Pred.{Pred}
@@ -12,7 +13,9 @@ use Rattle.ccr_places.specs.Ports.{first_fitting, without_first}
 use Rattle.ccr_places.proofs.FirstFitting.{without_first-none}
 use Rattle.ccr_claim.specs.Plans.{names_of}
 use Rattle.ccr_model.proofs.PostNames.{times}
+use Rattle.ccr_model.proofs.MessageNames.{none_left, tail_apart}
 use Rattle.ccr_base.proofs.SameNames.{same_message-self, same_message-sym}
+use Rattle.ccr_base.proofs.Filters.{more_kept}
 
 -- whether a message of the name is among them
 abbrev pub has_name : List Msg → MsgId → Bool
@@ -22,14 +25,7 @@ pub fitting-post : (pred : Pred) (items : List Msg) (m : Msg) → fitting pred (
 fitting-post pred items m = grind (arith, common_steps)
 
 pub enough-post : (pred : Pred) (items : List Msg) (m : Msg) (n : ℕ) → n ≤ length (fitting pred items) → n ≤ length (fitting pred (items ++ m ∷ []))
-enough-post pred [] m zero le = omega arith
-enough-post pred [] m (suc n) le = absurd (omega arith)
-enough-post pred (x ∷ items) m zero le = omega arith
-enough-post pred (x ∷ items) m (suc n) le = by (holds pred x.value) refl (enough-post pred items m n) (enough-post pred items m (suc n))
-  where
-    by : (b : Bool) → holds pred x.value ≡ b → (n ≤ length (fitting pred items) → n ≤ length (fitting pred (items ++ m ∷ []))) → (suc n ≤ length (fitting pred items) → suc n ≤ length (fitting pred (items ++ m ∷ []))) → suc n ≤ length (fitting pred (x ∷ items ++ m ∷ []))
-    by true e one other = grind (arith, common_steps, e, le, one)
-    by false e one other = grind (arith, common_steps, e, le, other)
+enough-post pred items m n le = let more = more_kept (λ (x : Msg). holds pred x.value) items (m ∷ []) in omega (arith, le, more)
 
 -- one of at least one to take out
 step-some : (n : ℕ) (pred : Pred) (x : Msg) (ms : List Msg) → without_first (suc n) pred (x ∷ ms) ≡ (if holds pred x.value then without_first n pred ms else x ∷ without_first (suc n) pred ms)
@@ -64,12 +60,7 @@ without_first-post (suc n) pred (x ∷ items) m le = step-some n pred x (items +
     by false low one other = rw (other low) refl
 
 pub first_fitting-post : (n : ℕ) (pred : Pred) (items : List Msg) (m : Msg) → n ≤ length (fitting pred items) → first_fitting n pred (items ++ m ∷ []) ≡ first_fitting n pred items
-first_fitting-post n pred items m le = rw fitting-post (take-more n (fitting pred items) (fitting pred (m ∷ [])) le)
-  where
-    take-more : (k : ℕ) (xs ys : List Msg) → k ≤ length xs → take k (xs ++ ys) ≡ take k xs
-    take-more zero xs ys low = refl
-    take-more (suc k) [] ys low = absurd (omega arith)
-    take-more (suc k) (x ∷ xs) ys low = rw (take-more k xs ys (omega arith)) refl
+first_fitting-post n pred items m le = rw fitting-post (take-append-le n (fitting pred items) (fitting pred (m ∷ [])) le)
 
 -- ---- by names
 
@@ -114,25 +105,14 @@ filter-more (m ∷ ms) name names out = by (same_message name m.id) refl out (fi
     by true e gone rest = absurd (let there : has_name (m ∷ ms) name ≡ true = grind (arith, e) in cc)
     by false e gone rest = let older : has_name ms name ≡ false = grind (arith, e, gone) in let back : same_message m.id name ≡ false = same_message-sym m.id name ∙ e in rw (back, rest older) refl
 
-filter-none : (ms : List Msg) → filter (λ (m : Msg). not (has_message [] m.id)) ms ≡ ms
-filter-none [] = refl
-filter-none (m ∷ ms) = rw (filter-none ms) refl
-
-once_less : (m : Msg) (ms : List Msg) → ((name : MsgId) → times name (m ∷ ms) ≤ 1) → (name : MsgId) → times name ms ≤ 1
-once_less m ms once name = by (same_message m.id name) (once name)
-  where
-    by : (b : Bool) → length (if b then m ∷ filter (λ (x : Msg). same_message x.id name) ms else filter (λ (x : Msg). same_message x.id name) ms) ≤ 1 → times name ms ≤ 1
-    by true le = omega arith
-    by false le = le
-
 once_here : (m : Msg) (ms : List Msg) → ((name : MsgId) → times name (m ∷ ms) ≤ 1) → has_name ms m.id ≡ false
 once_here m ms once = none_named ms m.id (let le = once m.id in let self = same_message-self m.id in grind (arith, le, self))
 
 -- where each name stands once, to take out the marked messages is to leave out their names
 pub without_first-names : (n : ℕ) (pred : Pred) (ms : List Msg) → ((name : MsgId) → times name ms ≤ 1) → without_first n pred ms ≡ filter (λ (m : Msg). not (has_message (names_of (first_fitting n pred ms)) m.id)) ms
-without_first-names zero pred ms once = without_first-none pred ms ∙ sym (filter-none ms)
+without_first-names zero pred ms once = without_first-none pred ms ∙ sym (none_left ms)
 without_first-names (suc n) pred [] once = refl
-without_first-names (suc n) pred (m ∷ ms) once = step-some n pred m ms ∙ by (holds pred m.value) (without_first-names n pred ms (once_less m ms once)) (without_first-names (suc n) pred ms (once_less m ms once))
+without_first-names (suc n) pred (m ∷ ms) once = step-some n pred m ms ∙ by (holds pred m.value) (without_first-names n pred ms (tail_apart m ms once)) (without_first-names (suc n) pred ms (tail_apart m ms once))
   where
     by : (b : Bool) → without_first n pred ms ≡ filter (λ (x : Msg). not (has_message (names_of (first_fitting n pred ms)) x.id)) ms → without_first (suc n) pred ms ≡ filter (λ (x : Msg). not (has_message (names_of (first_fitting (suc n) pred ms)) x.id)) ms
         → (if b then without_first n pred ms else m ∷ without_first (suc n) pred ms) ≡ filter (λ (x : Msg). not (has_message (names_of (take (suc n) (if b then m ∷ fitting pred ms else fitting pred ms))) x.id)) (m ∷ ms)

@@ -1,5 +1,5 @@
 -- What a queue keeps queued is what the history leaves queued: one lemma a kind of event.
-use Rattle.std.proofs.Common.{Option, length, drop, option_to_list, ◌≡◌, ℕ, Bool, true, false, List, [], ◌∷◌, ◌++◌, map, Some, None, refl, sym, arith, ap, ◌∙◌, subst, append-nil}
+use Rattle.std.proofs.Common.{length, drop, option_to_list, ◌≡◌, ℕ, Bool, true, false, List, [], ◌∷◌, ◌++◌, map, Some, None, refl, sym, arith, ap, ◌∙◌, subst, append-nil}
 use Rattle.std.specs.Prelude.{◌==◌, if◌then◌else◌, slice_get, nat_le}
 use Rattle.std.proofs.lemmas.List.{length-map}
 use Rattle.std.specs.Option.{option_map}
@@ -7,7 +7,7 @@ use Rattle.std.proofs.lemmas.Grind.{common_steps}
 use Rattle.ccr_base.specs.declared.names.TaskId.{TaskId}
 use Rattle.ccr_base.specs.declared.policies.Policy.{Policy}
 use Rattle.ccr_base.specs.declared.policies.Policy.TheVariants.{Unbounded, Discard, Throttle}
-use Rattle.ccr_base.specs.Names.{same_task, has_task, without}
+use Rattle.ccr_base.specs.Names.{has_task, without}
 use Rattle.ccr_wiring.specs.declared.parts.Parts.{Parts}
 use Rattle.ccr_wiring.specs.Wirings.{Placement, policy_of}
 use Rattle.ccr_model.specs.declared.history.Event.{Event}
@@ -20,11 +20,10 @@ use Rattle.ccr_model.specs.Tasks.{queued, is_for_queue}
 use Rattle.ccr_model.specs.Legal.{IsLegal}
 use Rattle.ccr_base.proofs.Booleans.{same_number, eq-self, refuted}
 use Rattle.ccr_base.proofs.Options.{some_of}
-use Rattle.ccr_base.proofs.SameNames.{same_task-is}
 use Rattle.ccr_model.proofs.TaskSteps.{queued-put, queued-start}
-use Rattle.ccr_model.proofs.TaskLists.{without_other, without_first, not_more, not_within, has_oldest, none_gone}
-use Rattle.ccr_model.proofs.WhoWasPut.{ArePlaced-legal, QueuedFacts-queued}
-use Rattle.ccr_model.proofs.Queued.{queued_once}
+use Rattle.ccr_model.proofs.TaskLists.{without_other, without_first, has_oldest, none_gone}
+use Rattle.ccr_model.proofs.WhoWasPut.{QueuedFacts-queued}
+use Rattle.ccr_model.proofs.Queued.{queued_once, put_fresh}
 use Rattle.ccr_places.specs.declared.notes.Note.{Note}
 use Rattle.ccr_places.specs.declared.notes.Note.TheVariants as notes
 use Rattle.ccr_places.specs.Queues.{QueueState, Queued, queued_task}
@@ -39,22 +38,6 @@ abbrev pub QueueChanges : (ℕ → QueueState) → (ℕ → QueueState) → ℕ 
 QueueChanges queue queue' q note = (k : ℕ) → queue' k ≡ (if q == k then queues.after (queue k) note else queue k)
 
 -- ---- the history
-
--- a task that may be put neither started nor was dropped, and isn't the one that is dropped
-pub put_fresh : (w : Parts) (h : List Event) (t : TaskId) (d : Option TaskId) → IsLegal w h → has_task (put h) t ≡ false → ((x : TaskId) → d ≡ Some x → has_task (put h) x ≡ true) → has_task (started h ++ (dropped h ++ option_to_list d)) t ≡ false
-put_fresh w h t d legal new known =
-    let lists = (ArePlaced-legal w h legal).lists in
-    let unstarted = not_within (started h) (put h) t (lists.put_started t) new in
-    let undropped = not_within (dropped h) (put h) t (lists.put_dropped t) new in
-    not_more (started h) (dropped h ++ option_to_list d) t unstarted (not_more (dropped h) (option_to_list d) t undropped (other d known))
-  where
-    other : (o : Option TaskId) → ((x : TaskId) → o ≡ Some x → has_task (put h) x ≡ true) → has_task (option_to_list o) t ≡ false
-    other None is = refl
-    other (Some x) is = of_test (same_task t x) refl
-      where
-        of_test : (b : Bool) → same_task t x ≡ b → has_task (x ∷ []) t ≡ false
-        of_test false e = rw e refl
-        of_test true e = absurd (let there = is x refl in let same : t ≡ x = same_task-is t x e in let out : has_task (put h) x ≡ false = subst (λ u. has_task (put h) u ≡ false) same new in cc)
 
 -- a task is queued at one queue
 pub one_queue : (w : Parts) (h : List Event) (q k : ℕ) (t : TaskId) → has_task (queued w h q) t ≡ true → has_task (queued w h k) t ≡ true → q ≡ k

@@ -7,7 +7,6 @@ use Rattle.ccr_base.specs.declared.names.MsgId.{MsgId}
 use Rattle.ccr_base.specs.declared.names.Place.TheVariants as places
 use Rattle.ccr_base.specs.declared.names.Spot.TheVariants.{Branch, Site}
 use Rattle.ccr_base.specs.declared.names.TaskId.{TaskId}
-use Rattle.ccr_base.specs.Names.{has_task}
 use Rattle.ccr_wiring.specs.declared.parts.Parts.{Parts}
 use Rattle.ccr_wiring.specs.Wirings.{branch_of, segment_of}
 use Rattle.ccr_model.specs.declared.history.Event.{Event}
@@ -19,7 +18,7 @@ use Rattle.ccr_model.specs.Live.{is_none_of}
 use Rattle.ccr_model.specs.Sites.{suspended, yields_at}
 use Rattle.ccr_base.proofs.Booleans.{same_number, both}
 use Rattle.ccr_model.proofs.FiredTasks.{IsFired}
-use Rattle.ccr_model.proofs.Suspending.{ResumeFacts, ResumeFacts-allowed, end_fired, suspended-other, suspended-branch, suspended-elsewhere, suspended-here}
+use Rattle.ccr_model.proofs.Suspending.{ResumeFacts, ResumeFacts-allowed, end_fired, suspended-other, suspended-branch, suspended-elsewhere, suspended-here, suspended-same}
 use Rattle.ccr_places.specs.declared.notes.Note.{Note}
 use Rattle.ccr_places.specs.declared.notes.Note.TheVariants as notes
 use Rattle.ccr_places.specs.Sites.{SiteState}
@@ -65,14 +64,8 @@ SitesMatch-still es e h none calm same match b k = ap (λ (s : SiteState). s.sus
 pub SitesMatch-silent : (es : List Entry) (e : Entry) → event_of e ≡ [] → SitesMatch (visible es) es → SitesMatch (visible es) (es ++ e ∷ [])
 SitesMatch-silent es e none match = SitesMatch-still es e (visible es) (ap yielded none) (ap firings none) (λ b k. refl) match
 
-suspended_still : (w : Parts) (h : List Event) (ev : Event) → IsLegal w h → firing_of ev ≡ [] → yielded_by ev ≡ [] → (b k : ℕ) → suspended (h ++ ev ∷ []) (Site b k) ≡ suspended h (Site b k)
-suspended_still w h ev legal calm none b k =
-    suspended-other w h ev b k calm legal (λ t is. absurd (let nobody : has_task [] t ≡ true = subst (λ ts. has_task ts t ≡ true) none is in cc))
-    ∙ ap (λ ts. suspended h (Site b k) ++ filter (yields_at h (Site b k)) ts) none
-    ∙ append-nil (suspended h (Site b k))
-
 pub SitesMatch-other : (w : Parts) (es : List Entry) (e : Entry) (ev : Event) → IsLegal w (visible es) → event_of e ≡ ev ∷ [] → firing_of ev ≡ [] → yielded_by ev ≡ [] → SitesMatch (visible es) es → SitesMatch (visible es ++ ev ∷ []) (es ++ e ∷ [])
-SitesMatch-other w es e ev legal is calm none match = SitesMatch-still es e (visible es ++ ev ∷ []) (ap yielded is ∙ append-nil (yielded_by ev) ∙ none) (ap firings is ∙ append-nil (firing_of ev) ∙ calm) (suspended_still w (visible es) ev legal calm none) match
+SitesMatch-other w es e ev legal is calm none match = SitesMatch-still es e (visible es ++ ev ∷ []) (ap yielded is ∙ append-nil (yielded_by ev) ∙ none) (ap firings is ∙ append-nil (firing_of ev) ∙ calm) (suspended-same w (visible es) ev legal calm none) match
 
 -- ---- firings
 

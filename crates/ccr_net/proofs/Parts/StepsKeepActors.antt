@@ -27,11 +27,10 @@ use Rattle.ccr_model.proofs.AllowedFirings.{firing_named-new, waits_outside}
 use Rattle.ccr_model.proofs.Stable.{firing_named-append}
 use Rattle.ccr_model.proofs.TaskLists.{among_left, among_right, not_more, not_within, of_more, of_one}
 use Rattle.ccr_base.proofs.Booleans.{same_number, eq-self, refuted, no_both}
-use Rattle.ccr_model.proofs.TasksLeft.{has_task-append, has_task-last}
 use Rattle.ccr_model.proofs.FiredTasks.{IsFired, fired_has, placement_stays}
 use Rattle.ccr_model.proofs.Members.{Among, Among-left, Among-right, Among-either}
 use Rattle.ccr_model.proofs.OneMoreEvent.{firings-push, fired-fire, put-push, cut-push, ever_admitted-push}
-use Rattle.ccr_base.proofs.SameNames.{same_task-is, same_task-self}
+use Rattle.ccr_base.proofs.SameNames.{same_task-is, same_task-self, has_task-append, has_task-last}
 use Rattle.ccr_places.specs.declared.claims.StandingClaim.{StandingClaim}
 use Rattle.ccr_places.specs.declared.notes.ClaimNote.TheVariants.{Got}
 use Rattle.ccr_places.specs.declared.notes.Note.TheVariants as notes

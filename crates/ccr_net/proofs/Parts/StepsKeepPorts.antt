@@ -1,5 +1,5 @@
 -- The ports' part of the invariant, one lemma a kind of step.
-use Rattle.std.proofs.Common.{◌⊎◌, inl, inr, ◌≡◌, ◌≤◌, ℕ, Bool, true, false, not, ◌||◌, List, [], ◌∷◌, ◌++◌, length, filter, Option, Some, None, refl, sym, arith, ap, ◌∙◌, subst, append-nil}
+use Rattle.std.proofs.Common.{◌⊎◌, inl, inr, ◌≡◌, ◌≤◌, ℕ, Bool, true, false, not, ◌||◌, List, [], ◌∷◌, ◌++◌, length, filter, Option, Some, None, refl, sym, arith, ap, ◌∙◌, subst, append-nil, map}
 use Rattle.std.specs.Prelude.{◌==◌, if◌then◌else◌}
 use Rattle.std.specs.Option.{option_map_or}
 use Rattle.std.proofs.lemmas.Grind.{common_steps}
@@ -12,16 +12,16 @@ use Rattle.ccr_base.specs.Selection.{fitting}
 use Rattle.ccr_base.specs.Names.{same_task, same_message, has_task, has_message}
 use Rattle.ccr_model.specs.declared.history.Event.{Event}
 use Rattle.ccr_model.specs.declared.history.Event.TheVariants as events
-use Rattle.ccr_model.specs.Posts.{posts, taken, held, posted}
-use Rattle.ccr_model.specs.Firings.{fired}
+use Rattle.ccr_model.specs.Posts.{posts, taken, held}
+use Rattle.ccr_model.specs.Firings.{fired, Firing}
 use Rattle.ccr_base.proofs.Booleans.{same_number, or_left, or_right}
 use Rattle.ccr_model.proofs.HeldSteps.{held-post, held-fire}
-use Rattle.ccr_model.proofs.OneMoreEvent.{fired-fire}
+use Rattle.ccr_model.proofs.OneMoreEvent.{fired-fire, posts-push}
 use Rattle.ccr_model.proofs.PostNames.{times, AreNamed}
-use Rattle.ccr_base.proofs.SameNames.{same_message-self}
-use Rattle.ccr_model.proofs.MessageNames.{has_message-append}
-use Rattle.ccr_model.proofs.TakenOnce.{times-filter}
-use Rattle.ccr_model.proofs.TasksLeft.{has_task-last}
+use Rattle.ccr_base.proofs.SameNames.{same_message-self, has_task-last}
+use Rattle.ccr_model.proofs.MessageNames.{has_message-append, held_few}
+use Rattle.ccr_model.proofs.TakenOnce.{taken-push}
+use Rattle.ccr_model.proofs.AllowedFirings.{firings-other}
 use Rattle.ccr_places.specs.declared.claims.StandingClaim.{StandingClaim}
 use Rattle.ccr_places.specs.declared.notes.ClaimNote.TheVariants.{Got}
 use Rattle.ccr_places.specs.declared.notes.Note.{Note}
@@ -41,13 +41,13 @@ implied_false false b then_so is = refl
 implied_false true b then_so is = let k = then_so refl in absurd (cc)
 
 posts-post : (h : List Event) (m : Msg) → posts (h ++ events.Post m ∷ []) ≡ posts h ++ m ∷ []
-posts-post h m = grind (arith, common_steps)
+posts-post h m = posts-push h (events.Post m)
 
 taken-post : (h : List Event) (m : Msg) → taken (h ++ events.Post m ∷ []) ≡ taken h
-taken-post h m = grind (arith, common_steps)
+taken-post h m = taken-push h (events.Post m) ∙ append-nil (taken h)
 
 pub fired-post : (h : List Event) (m : Msg) → fired (h ++ events.Post m ∷ []) ≡ fired h
-fired-post h m = grind (arith, common_steps)
+fired-post h m = ap (map (λ (f : Firing). f.task)) (firings-other h (events.Post m) refl)
 
 posted-more : (h : List Event) (m : Msg) (name : MsgId) → has_name (posts h) name ≡ true → has_name (posts (h ++ events.Post m ∷ [])) name ≡ true
 posted-more h m name is = rw (posts-post, has_name-append) (or_left (has_name (posts h) name) (has_name (m ∷ []) name) is)
@@ -133,10 +133,10 @@ PortsMatch-got h port port' p t slot n none fresh enough changes match = quiet_s
 -- ---- a firing: no port changes
 
 taken-fire : (h : List Event) (t : TaskId) (s : Spot) (ms : List MsgId) (cs : List TaskId) → taken (h ++ events.Fire t s ms cs ∷ []) ≡ taken h ++ ms
-taken-fire h t s ms cs = grind (arith, common_steps)
+taken-fire h t s ms cs = taken-push h (events.Fire t s ms cs)
 
 posts-fire : (h : List Event) (t : TaskId) (s : Spot) (ms : List MsgId) (cs : List TaskId) → posts (h ++ events.Fire t s ms cs ∷ []) ≡ posts h
-posts-fire h t s ms cs = grind (arith, common_steps)
+posts-fire h t s ms cs = posts-push h (events.Fire t s ms cs) ∙ append-nil (posts h)
 
 -- each port is one that the firing task claimed, with all names of the firing that stand there, or has none of them
 abbrev pub IsTouched : List Event → (ℕ → PortState) → TaskId → List MsgId → ℕ → Type 0
@@ -167,14 +167,6 @@ unmarked-other gone port t other = of_claim port.claim refl
     of_claim None e = refl
     of_claim (Some c) e = let apart = other c e in let same : has_task (gone ++ t ∷ []) c.task ≡ has_task gone c.task = grind (arith, common_steps, apart) in rw same refl
 
--- what is held has names of its own
-pub held_once : (h : List Event) (p : ℕ) (name : MsgId) → AreNamed (posts h) → times name (held h p) ≤ 1
-held_once h p name named =
-    let one = named.once name in
-    let two = times-filter name (λ (m : Msg). m.port == p) (posts h) in
-    let three = times-filter name (λ (m : Msg). not (has_message (taken h) m.id)) (posted h p) in
-    omega (arith, one, two, three)
-
 pub PortsMatch-fire : (h : List Event) (port : ℕ → PortState) (t : TaskId) (s : Spot) (names : List MsgId) (cs : List TaskId) → AreNamed (posts h) → has_task (fired h) t ≡ false → ((q : ℕ) → IsTouched h port t names q) → ((name : MsgId) → has_message names name ≡ true → has_name (posts h) name ≡ true) → PortsMatch h port → PortsMatch (h ++ events.Fire t s names cs ∷ []) port
 PortsMatch-fire h port t s names cs named fresh touched there match = record {
   holds_so = λ q. held-fire h t s names cs q ∙ rw (fired-fire h t s names cs) (held_at q (touched q));
@@ -189,7 +181,7 @@ PortsMatch-fire h port t s names cs named fresh touched there match = record {
         let before : has_task (fired h) c.task ≡ false = rw found.2 fresh in
         let now : has_task (fired h ++ t ∷ []) c.task ≡ true = rw found.2 (has_task-last (fired h) t) in
         let items : held h q ≡ (port q).items = match.holds_so q ∙ rw (found.1, before) refl in
-        let out : without_first c.count c.pred (port q).items ≡ filter (λ (m : Msg). not (has_name (first_fitting c.count c.pred (port q).items) m.id)) (port q).items = without_first-names c.count c.pred (port q).items (λ name. subst (λ ms. times name ms ≤ 1) items (held_once h q name named)) in
+        let out : without_first c.count c.pred (port q).items ≡ filter (λ (m : Msg). not (has_name (first_fitting c.count c.pred (port q).items) m.id)) (port q).items = without_first-names c.count c.pred (port q).items (λ name. subst (λ ms. times name ms ≤ 1) items (held_few h q name (named.once name))) in
         filter-agree (held h q) names (names_of (first_fitting c.count c.pred (port q).items)) found.3
         ∙ ap (filter (λ (m : Msg). not (has_name (first_fitting c.count c.pred (port q).items) m.id))) items
         ∙ sym out

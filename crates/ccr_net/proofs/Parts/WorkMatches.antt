@@ -1,5 +1,5 @@
 -- Where a poster stands in its script, and a worker in its task: one lemma a kind of event.
-use Rattle.std.proofs.Common.{◌≡◌, ◌≢◌, ◌≤◌, ◌<◌, ℕ, zero, suc, ◌+◌, Bool, true, false, List, [], ◌∷◌, ◌++◌, length, drop, filter, Some, refl, sym, arith, ◌∙◌, append-nil}
+use Rattle.std.proofs.Common.{◌≡◌, ◌≢◌, ◌≤◌, ℕ, ◌+◌, Bool, true, false, List, [], ◌∷◌, ◌++◌, length, drop, filter, Some, refl, sym, arith, ◌∙◌, append-nil, ap}
 use Rattle.std.specs.Prelude.{◌==◌}
 use Rattle.std.specs.List.{slice_get}
 use Rattle.std.proofs.lemmas.Grind.{common_steps}
@@ -19,15 +19,16 @@ use Rattle.ccr_model.specs.Posts.{posts, posts_of_poster, posts_of_task, is_scri
 use Rattle.ccr_model.specs.Firings.{ended, ended_by}
 use Rattle.ccr_model.specs.TaskData.{play_of}
 use Rattle.ccr_model.specs.Tasks.{running_by, started_as}
-use Rattle.ccr_base.proofs.Booleans.{same_number, eq-self}
+use Rattle.ccr_base.proofs.Booleans.{same_number}
 use Rattle.ccr_model.proofs.FiredTasks.{IsFired, IsFired-append}
 use Rattle.ccr_model.proofs.OneMoreEvent.{posts-push}
-use Rattle.ccr_base.proofs.SameNames.{same_task-is, same_task-self}
+use Rattle.ccr_base.proofs.SameNames.{same_task-is}
 use Rattle.ccr_model.proofs.Stable.{firing_named-append, root_at-append, load_at-append}
 use Rattle.ccr_actor.specs.Actors.{Work, lines, round, taking, playing, posting, shedding, resting, play_in}
 use Rattle.ccr_runs.specs.Views.{view}
 use Rattle.ccr_net.proofs.Parts.TasksStartOnce.{AreStartedOnce, run_apart}
 use Rattle.ccr_model.proofs.RunningTasks.{running_by-end, starts, running_by-push}
+use Rattle.ccr_model.proofs.PostNames.{sent_own, sent_by}
 
 -- the task that a worker runs, how many of its posts are made, and those that are left
 pub record RunsTask (w : Parts) (h : List Event) (a : ℕ) (task : Task) (index : ℕ) (left : List Sent) : Type 0 where
@@ -199,32 +200,7 @@ end_says h u how a b known runs other = record {
 
 -- the next post of a script
 pub script_own : (h : List Event) (m : Msg) (a k : ℕ) → m.id ≡ names.Script a k → posts_of_poster (h ++ events.Post m ∷ []) a ≡ posts_of_poster h a + 1
-script_own h m a k id = rw (posts-push h (events.Post m)) (more (posts h))
-  where
-    in' : is_script_of a m.id ≡ true
-    in' = rw id (eq-self a)
-
-    more : (ms : List Msg) → length (filter (λ (x : Msg). is_script_of a x.id) (ms ++ m ∷ [])) ≡ length (filter (λ (x : Msg). is_script_of a x.id) ms) + 1
-    more ms = grind (arith, common_steps, in')
+script_own h m a k id = ap (sent_by (names.Script a k)) (posts-push h (events.Post m)) ∙ sent_own (posts h) m (names.Script a k) id
 
 pub task_own : (h : List Event) (m : Msg) (t : TaskId) (k : ℕ) → m.id ≡ names.Task t k → posts_of_task (h ++ events.Post m ∷ []) t ≡ posts_of_task h t + 1
-task_own h m t k id = rw (posts-push h (events.Post m)) (more (posts h))
-  where
-    in' : is_message_of t m.id ≡ true
-    in' = rw id (same_task-self t)
-
-    more : (ms : List Msg) → length (filter (λ (x : Msg). is_message_of t x.id) (ms ++ m ∷ [])) ≡ length (filter (λ (x : Msg). is_message_of t x.id) ms) + 1
-    more ms = grind (arith, common_steps, in')
-
--- the rest of a list behind its first
-pub drop-next : {X : Type 0} (n : ℕ) (xs : List X) (x : X) (rest : List X) → x ∷ rest ≡ drop n xs → (slice_get xs n ≡ Some x) × (rest ≡ drop (suc n) xs) × (n < length xs)
-drop-next zero [] x rest is = absurd (cc)
-drop-next zero (y ∷ xs) x rest is = (cc, cc, omega arith)
-drop-next (suc n) [] x rest is = absurd (cc)
-drop-next (suc n) (y ∷ xs) x rest is = let more = drop-next n xs x rest is in (more.0, more.1, (let low = more.2 in omega arith))
-
-pub drop-end : {X : Type 0} (n : ℕ) (xs : List X) → [] ≡ drop n xs → length xs ≤ n
-drop-end zero [] is = omega arith
-drop-end zero (y ∷ xs) is = absurd (cc)
-drop-end (suc n) [] is = omega arith
-drop-end (suc n) (y ∷ xs) is = let more = drop-end n xs is in omega arith
+task_own h m t k id = ap (sent_by (names.Task t k)) (posts-push h (events.Post m)) ∙ sent_own (posts h) m (names.Task t k) id

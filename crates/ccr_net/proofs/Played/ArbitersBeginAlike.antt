@@ -19,15 +19,16 @@ use Rattle.ccr_wiring.specs.Domains.{domain_of, least_with}
 use Rattle.ccr_wiring.specs.Groups.{has_strange_group, is_branchless, is_interleave, is_misgrouped, is_one_named, is_receive}
 use Rattle.ccr_wiring.specs.References.{domain_is_dangling, has_dangling_domain, no_interleave}
 use Rattle.ccr_wiring.specs.Valid.{IsValid}
-use Rattle.ccr_wiring.specs.Wirings.{Placement, actions_of, awaited, in_domain, placement, placements, placements_from, sites_from, spots_from, kind_of}
-use Rattle.ccr_wiring.proofs.Lists.{neither, none_at}
+use Rattle.ccr_wiring.specs.Wirings.{Placement, actions_of, awaited, in_domain, placement, placements, placements_from, sites_from, spots_from, kind_of, branches_before}
+use Rattle.ccr_wiring.proofs.Lists.{neither}
 use Rattle.ccr_wiring.proofs.Validity.{no_codes}
 use Rattle.ccr_base.proofs.Booleans.{eq-self, same_number}
 use Rattle.ccr_base.specs.Lists.{has_number}
+use Rattle.ccr_base.proofs.Lists.{none_at}
 use Rattle.ccr_object.specs.declared.object.Object.TheVariants.{Arbiter}
 use Rattle.ccr_object.specs.Starts.{fresh_arbiter, member_at, member_of, members}
 use Rattle.ccr_runs.specs.declared.entries.Entry.{Entry}
-use Rattle.ccr_runs.specs.Places.{arbiter_after, branches_before, first_branch}
+use Rattle.ccr_runs.specs.Places.{arbiter_after, first_branch}
 use Rattle.ccr_runs.specs.EntryRuns.{notes_at}
 use Rattle.ccr_runs.specs.Visible.{visible}
 use Rattle.ccr_net.proofs.Played.ObjectsFollowNotes.{object_of, told_object}

@@ -16,6 +16,7 @@ use Rattle.ccr_base.specs.declared.patterns.Pattern.{Pattern}
 use Rattle.ccr_base.specs.declared.tasks.Task.{Task}
 use Rattle.ccr_base.specs.Names.{same_spot, has_task}
 use Rattle.ccr_cause.specs.Causes.{union, with_cause}
+use Rattle.ccr_cause.proofs.Joined.{union-append}
 use Rattle.ccr_handler.specs.declared.segments.PlayEnd.{PlayEnd}
 use Rattle.ccr_handler.specs.declared.segments.PlayEnd.TheVariants as plays
 use Rattle.ccr_wiring.specs.declared.parts.Parts.{Parts}
@@ -23,7 +24,7 @@ use Rattle.ccr_wiring.specs.Wirings.{Placement, placement, branch_of, segment_of
 use Rattle.ccr_model.specs.declared.history.Event.{Event}
 use Rattle.ccr_model.specs.declared.history.Event.TheVariants as events
 use Rattle.ccr_model.specs.Firings.{Firing, firing_named, fired, fired_at, spot_of, yielded}
-use Rattle.ccr_model.specs.Posts.{posts, held, message_named, messages_named}
+use Rattle.ccr_model.specs.Posts.{posts, held, messages_named}
 use Rattle.ccr_model.specs.Sites.{before, suspended, yields_at, yielded_at, root_at}
 use Rattle.ccr_model.specs.TaskData.{load_at, messages_of, play_at}
 use Rattle.ccr_base.proofs.Booleans.{both, same_number}
@@ -35,7 +36,7 @@ use Rattle.ccr_model.proofs.PostNames.{AreNamed}
 use Rattle.ccr_model.proofs.Stable.{load_at-append, root_at-append}
 use Rattle.ccr_model.proofs.TaskLists.{has_oldest, has_task-drop}
 use Rattle.ccr_model.proofs.TasksLeft.{of_filter}
-use Rattle.ccr_model.proofs.MessageNames.{found_once}
+use Rattle.ccr_model.proofs.MessageNames.{named-found}
 use Rattle.ccr_places.specs.declared.notes.Note.TheVariants as notes
 use Rattle.ccr_places.specs.Ports.{PortState, first_fitting}
 use Rattle.ccr_await.specs.Resuming.{resumed}
@@ -60,13 +61,6 @@ use Rattle.ccr_net.proofs.Parts.OneMoreEntry.{Step, visible-push}
 use Rattle.ccr_net.proofs.Kept.ShownStepsKeepAll.{named_legal}
 
 -- ---- messages by their names
-
-all_named : (h : List Event) (ms : List Msg) → AreNamed (posts h) → ((m : Msg) → Among m ms → Among m (posts h)) → messages_named h (names_of ms) ≡ ms
-all_named h [] named posted = refl
-all_named h (m ∷ ms) named posted =
-    let here : message_named h m.id ≡ Some m = found_once (posts h) m (posted m (inl refl)) (named.once m.id) in
-    let rest = all_named h ms named (λ x is. posted x (inr is)) in
-    rw (here, rest) refl
 
 -- ---- what an attempt got was posted
 
@@ -127,8 +121,7 @@ has_second (y ∷ ys) xs c is = by (y == c) refl is (has_second ys (with_cause x
     by false e there rest = rest there
 
 union_last : (ys xs : List ℕ) (c : ℕ) → union xs (ys ++ c ∷ []) ≡ with_cause (union xs ys) c
-union_last [] xs c = refl
-union_last (y ∷ ys) xs c = union_last ys (with_cause xs y) c
+union_last ys xs c = union-append xs ys (c ∷ [])
 
 union_with : (xs ys : List ℕ) (c : ℕ) → union xs (with_cause ys c) ≡ with_cause (union xs ys) c
 union_with xs ys c = by (has_number ys c) refl
@@ -299,7 +292,7 @@ module _ (w : Parts) (n : ℕ) (lacks : Lacks) (es : List Entry) (e : Entry) (ho
 
   -- the messages that were got are those of their names
   named_so : (pattern : Pattern) (had : List Had) → before_it.phase ≡ claiming [] had → messages_named h (names_of (in_pattern pattern had)) ≡ in_pattern pattern had
-  named_so pattern had phase = subst (λ hs. messages_named h (names_of (in_pattern pattern hs)) ≡ in_pattern pattern hs) (ap had_in phase) (all_named h (in_pattern pattern (had_in before_it.phase)) named (got_posted w h (port_at es) e.actor before_it named holds.ports (holds.actors e.actor).claims fresh pattern))
+  named_so pattern had phase = subst (λ hs. messages_named h (names_of (in_pattern pattern hs)) ≡ in_pattern pattern hs) (ap had_in phase) (named-found (posts h) (in_pattern pattern (had_in before_it.phase)) named.once (got_posted w h (port_at es) e.actor before_it named holds.ports (holds.actors e.actor).claims fresh pattern))
     where
       named : AreNamed (posts h)
       named = named_legal w h holds.legal

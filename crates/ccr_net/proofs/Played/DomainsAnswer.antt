@@ -2,6 +2,8 @@
 use Rattle.std.proofs.Common.{◌≡◌, ℕ, Bool, true, false, List, [], ◌∷◌, ◌++◌, map, Option, Some, None, refl, sym, arith, ap, ◌∙◌}
 use Rattle.std.specs.Prelude.{if◌then◌else◌, slice_get, drop, is_some}
 use Rattle.std.specs.Option.{option_map, option_map_or}
+use Rattle.std.proofs.lemmas.Option.{slice_get-map}
+use Rattle.std.proofs.lemmas.List.{drop-map}
 use Rattle.ccr_base.specs.declared.names.MsgId.{MsgId}
 use Rattle.ccr_base.specs.declared.names.Place.TheVariants as places
 use Rattle.ccr_base.specs.declared.names.TaskId.{TaskId}
@@ -14,6 +16,7 @@ use Rattle.ccr_model.specs.declared.history.Event.{Event}
 use Rattle.ccr_model.specs.Tasks.{is_interleave}
 use Rattle.ccr_base.proofs.Booleans.{eq-self}
 use Rattle.ccr_base.proofs.Options.{some_then}
+use Rattle.ccr_base.proofs.Lists.{map_twice}
 use Rattle.ccr_places.specs.Commits.{cut_tasks}
 use Rattle.ccr_places.specs.declared.notes.Note.{Note}
 use Rattle.ccr_places.specs.declared.notes.Note.TheVariants as notes
@@ -43,7 +46,7 @@ use Rattle.ccr_net.proofs.Played.OtherObjectsStay.{waiting_fired}
 use Rattle.ccr_net.proofs.Played.ObjectsFollowNotes.{AnswersAs, told_interleave}
 use Rattle.ccr_net.proofs.Played.DomainsBeginAlike.{domain_arbiter, domain_branch, domain_object}
 use Rattle.ccr_net.proofs.Parts.OneMoreEntry.{visible-push}
-use Rattle.ccr_net.proofs.Played.ToldTasksStay.{map_behind, map_drop, map_first, map_twice, views-stay}
+use Rattle.ccr_net.proofs.Played.ToldTasksStay.{map_behind, views-stay}
 
 -- the task that the ask commits
 abbrev pub CommitTells : Parts → List Entry → Entry → ℕ → Ask → Type 0
@@ -141,11 +144,11 @@ module _ (w : Parts) (n : ℕ) (lacks : Lacks) (es : List Entry) (e : Entry) (pl
 
   admitted_so : (o : Option Waiting) → ((x : Waiting) → o ≡ Some x → slice_get state.waiting 0 ≡ Some x) → option_map (view w later) (option_map (λ (x : Waiting). x.task) o) ≡ (if is_some (option_map (λ (x : Waiting). x.task) o) then slice_get told.tasks 0 else None)
   admitted_so None first = refl
-  admitted_so (Some x) first = sym (ap (λ ts. slice_get ts 0) (sym waiting_stay) ∙ map_first (λ (y : Waiting). view w later y.task) state.waiting ∙ ap (option_map (λ (y : Waiting). view w later y.task)) (first x refl))
+  admitted_so (Some x) first = sym (ap (λ ts. slice_get ts 0) (sym waiting_stay) ∙ slice_get-map (λ (y : Waiting). view w later y.task) state.waiting 0 ∙ ap (option_map (λ (y : Waiting). view w later y.task)) (first x refl))
 
   left_so : (o : Option TaskId) → Interleave (if is_some o then kept.after_oldest told else told) ≡ told_interleave w later (interleaves.after_admit state o)
   left_so None = stays_with state refl
-  left_so (Some t) = λ j. Interleave (record { state = interleaves.after_admission state; tasks = (ap (drop 1) (sym waiting_stay) ∙ sym (map_drop (λ (x : Waiting). view w later x.task) 1 state.waiting) ∙ ap (whole_waiting w later) (sym (admission_list state))) j })
+  left_so (Some t) = λ j. Interleave (record { state = interleaves.after_admission state; tasks = (ap (drop 1) (sym waiting_stay) ∙ drop-map (λ (x : Waiting). view w later x.task) 1 state.waiting ∙ ap (whole_waiting w later) (sym (admission_list state))) j })
 
   -- ---- all asks
 

@@ -12,7 +12,7 @@ use Rattle.ccr_net.proofs.Known.AsksAreKnown.{IsNamed}
 use Rattle.ccr_net.proofs.Known.PlacesAreKnown.{place_stands}
 use Rattle.ccr_net.proofs.Known.RunsAreKnown.{next_named}
 use Rattle.ccr_net.proofs.Played.NextAsksAreAnswered.{AskFacts, IsNextAsk}
-use Rattle.ccr_net.proofs.Played.PlayedRunsAreRuns.{some_of}
+use Rattle.ccr_base.proofs.Options.{is_there}
 
 module _ (w : Parts) (workers : ℕ) (lacks : Lacks) (valid : IsValid w) (few : workers ≤ 16) where
   next_met : (es : List Entry) (a : ℕ) (one : Asked) → IsNextAsk w workers lacks es a one → is_some (note_of w one.place (notes_at es one.place) one.ask) ≡ true
@@ -20,7 +20,7 @@ module _ (w : Parts) (workers : ℕ) (lacks : Lacks) (valid : IsValid w) (few : 
 
   named : (es : List Entry) (a : ℕ) (one : Asked) → IsNextAsk w workers lacks es a one → IsNamed w one
   named es a one following =
-      let noting = some_of (note_of w one.place (notes_at es one.place) one.ask) (next_met es a one following) in
+      let noting = is_there (note_of w one.place (notes_at es one.place) one.ask) (next_met es a one following) in
       next_named w workers lacks valid few es a one noting.0 following.run following.asks noting.1
 
   pub ask_facts : AskFacts w workers lacks

@@ -1,6 +1,7 @@
 -- An entry leaves the objects of all other places as they were.
-use Rattle.std.proofs.Common.{◌≡◌, ◌⊎◌, inl, inr, ℕ, Bool, true, false, List, [], ◌∷◌, ◌++◌, map, Some, None, refl, sym, ap, ◌∙◌, subst, append-nil}
+use Rattle.std.proofs.Common.{◌≡◌, ◌⊎◌, inl, inr, ℕ, Bool, true, false, List, [], ◌∷◌, ◌++◌, Some, None, refl, sym, ap, ◌∙◌, subst, append-nil}
 use Rattle.std.specs.Prelude.{◌||◌, if◌then◌else◌}
+use Rattle.std.proofs.lemmas.List.{map-id}
 use Rattle.ccr_base.specs.declared.names.Place.{Place}
 use Rattle.ccr_base.specs.declared.names.Place.TheVariants as places
 use Rattle.ccr_base.specs.declared.names.Spot.TheVariants.{Site as SiteOf}
@@ -16,7 +17,7 @@ use Rattle.ccr_model.proofs.FiredTasks.{IsFired}
 use Rattle.ccr_model.proofs.AllowedFirings.{fired_by_named}
 use Rattle.ccr_model.proofs.Members.{Among, Among-either}
 use Rattle.ccr_base.proofs.SameNames.{same_task-self}
-use Rattle.ccr_model.proofs.TaskLists.{among_left, among_right}
+use Rattle.ccr_model.proofs.TaskLists.{among_left, among_right, named_has}
 use Rattle.ccr_places.specs.declared.notes.Note.{Note}
 use Rattle.ccr_places.specs.declared.notes.Note.TheVariants as notes
 use Rattle.ccr_places.specs.Interleaves as interleaves
@@ -33,7 +34,7 @@ use Rattle.ccr_net.proofs.Kept.WholeInvariant.{Holds}
 use Rattle.ccr_net.proofs.Played.ObjectsFollowNotes.{object_of, told_object}
 use Rattle.ccr_net.proofs.Played.QueuesAnswer.{queued_fired}
 use Rattle.ccr_net.proofs.Parts.OneMoreEntry.{notes_at-push, visible-push}
-use Rattle.ccr_net.proofs.Played.ToldTasksStay.{named_has, suspended_fired, suspended_views-stay, views-stay}
+use Rattle.ccr_net.proofs.Played.ToldTasksStay.{suspended_fired, suspended_views-stay, views-stay}
 
 -- ---- who waits by the notes of a domain has fired
 
@@ -100,11 +101,7 @@ waiting_fired w n lacks es holds i branches groups x is = by (kept_waiting (inte
 
 -- who is suspended by the notes of a site has fired
 pub site_fired : (w : Parts) (n : ℕ) (lacks : Lacks) (es : List Entry) → Holds w n lacks es → (b k : ℕ) (t : TaskId) → Among t (site_at es b k).suspended → IsFired (visible es) t
-site_fired w n lacks es holds b k t is = suspended_fired (visible es) (SiteOf b k) t (subst (λ ts. has_task ts t ≡ true) (holds.sites b k) (subst (λ ts. has_task ts t ≡ true) (same_names (site_at es b k).suspended) (named_has (λ (u : TaskId). u) (site_at es b k).suspended t is)))
-  where
-    same_names : (ts : List TaskId) → map (λ (u : TaskId). u) ts ≡ ts
-    same_names [] = refl
-    same_names (u ∷ ts) = ap (λ us. u ∷ us) (same_names ts)
+site_fired w n lacks es holds b k t is = suspended_fired (visible es) (SiteOf b k) t (subst (λ ts. has_task ts t ≡ true) (holds.sites b k) (subst (λ ts. has_task ts t ≡ true) (map-id (site_at es b k).suspended) (named_has (λ (u : TaskId). u) (site_at es b k).suspended t is)))
 
 -- ---- the objects
 

@@ -7,6 +7,7 @@ use Rattle.std.proofs.lemmas.Grind.{common_steps}
 use Rattle.std.proofs.lemmas.List.Elements.{All-nil, All-cons}
 use Rattle.ccr_base.specs.declared.names.Place.{Place}
 use Rattle.ccr_base.specs.declared.names.Place.TheVariants as places
+use Rattle.ccr_base.proofs.Options.{is_there}
 use Rattle.ccr_wiring.specs.declared.parts.Kind.{Kind}
 use Rattle.ccr_wiring.specs.declared.parts.Kind.TheVariants as kinds
 use Rattle.ccr_wiring.specs.declared.parts.Parts.{Parts}
@@ -81,10 +82,6 @@ Matches-begins w workers lacks = record {
 
 -- ---- one act
 
-pub some_of : {X : Type 0} (o : Option X) → is_some o ≡ true → (x : X) × (o ≡ Some x)
-some_of None is = absurd (cc)
-some_of (Some x) is = (x, refl)
-
 -- the ask behind a numbered one
 record Found (w : Parts) (o : Option Asked) (number : ℕ) (ask : Ask) : Type 0 where
   one : Asked
@@ -139,7 +136,7 @@ module _ (w : Parts) (workers : ℕ) (lacks : Lacks) (facts : StepFacts w worker
   there = let at = facts.asks.there past act.seat found.one is_next in stands w found.one.place at.0 at.1
 
   noting : (note : Note) × (note_of w found.one.place (notes_at past found.one.place) found.one.ask ≡ Some note)
-  noting = some_of (note_of w found.one.place (notes_at past found.one.place) found.one.ask) (facts.asks.met past act.seat found.one is_next)
+  noting = is_there (note_of w found.one.place (notes_at past found.one.place) found.one.ask) (facts.asks.met past act.seat found.one is_next)
 
   abbrev e : Entry
   e = record { actor = act.seat; place = found.one.place; stamp = next_stamp past found.one.place act.seat; note = noting.0 }

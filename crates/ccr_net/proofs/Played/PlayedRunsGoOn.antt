@@ -1,5 +1,5 @@
 -- A played run goes on by the next ask of an actor, and the actors go on with it.
-use Rattle.std.proofs.Common.{◌≡◌, ◌≢◌, ◌<◌, ◌≤◌, ℕ, zero, suc, ◌+◌, max, Bool, true, false, ◌⊎◌, List, [], ◌∷◌, ◌++◌, length, length-append, get_or, drop, Option, Some, None, Ok, refl, sym, arith, ap, ◌∙◌, subst, inl, inr, append_assoc, append-nil}
+use Rattle.std.proofs.Common.{◌≡◌, ◌<◌, ◌≤◌, ℕ, zero, suc, ◌+◌, max, Bool, true, false, ◌⊎◌, List, [], ◌∷◌, ◌++◌, length, length-append, get_or, drop, Option, Some, None, Ok, refl, sym, arith, ap, ◌∙◌, subst, inl, inr, append_assoc, append-nil}
 use Rattle.std.specs.Prelude.{◌==◌, cond, slice_get, slice_set}
 use Rattle.std.specs.List.{cons_option}
 use Rattle.std.specs.Option.{is_some, option_map, option_and_then}
@@ -12,7 +12,7 @@ use Rattle.ccr_wiring.specs.declared.parts.Parts.{Parts}
 use Rattle.ccr_wiring.specs.Valid.{IsValid}
 use Rattle.ccr_wiring.proofs.Soundness.{sound}
 use Rattle.ccr_base.proofs.Booleans.{eq-self, same_number, differ}
-use Rattle.ccr_base.proofs.Options.{get-push}
+use Rattle.ccr_base.proofs.Options.{get-push, get-set_same, get-set_other}
 use Rattle.ccr_places.specs.declared.notes.Note.{Note}
 use Rattle.ccr_claim.specs.declared.asks.Ask.{Ask}
 use Rattle.ccr_claim.specs.declared.asks.Asked.{Asked}
@@ -211,18 +211,6 @@ asks_one a silent goes = asking_one (next a) (subst (λ q. rests_by q (next a) �
 
 -- ---- actors by number
 
-pub got_set : {X : Type 0} (xs : List X) (k : ℕ) (y x : X) → k < length xs → slice_get (slice_set xs k y) k ≡ Some x → x ≡ y
-got_set [] k y x low is = absurd (omega arith)
-got_set (z ∷ zs) zero y x low is = cc
-got_set (z ∷ zs) (suc k) y x low is = got_set zs k y x (omega arith) is
-
-pub got_other : {X : Type 0} (xs : List X) (k : ℕ) (y : X) (j : ℕ) → j ≢ k → slice_get (slice_set xs k y) j ≡ slice_get xs j
-got_other [] k y j other = refl
-got_other (z ∷ zs) zero y zero other = absurd (other refl)
-got_other (z ∷ zs) zero y (suc j) other = refl
-got_other (z ∷ zs) (suc k) y zero other = refl
-got_other (z ∷ zs) (suc k) y (suc j) other = got_other zs k y j (λ e. other (ap suc e))
-
 pub started_push : (w : Parts) (n : ℕ) (team : List Acting) (a : Acting) → AreStarted w n team → a ≡ started w n → AreStarted w (n + 1) (team ++ a ∷ [])
 started_push w n team a so_far is = (omega (arith, so_far.0, length-append team (a ∷ [])), λ k x at. elim (get-push team a x k at) [ inl old ↦ so_far.1 k x old | inr new ↦ sym new.1 ∙ is ∙ ap (started w) (sym so_far.0 ∙ sym new.0) ])
 
@@ -290,9 +278,9 @@ module _ (workers : ℕ) (lacks : Lacks) (state : PlainState) (team : List Actin
         by : (t : Bool) → (k == j) ≡ t → IsActing w lacks more j x
         by true is =
             let j_is : k ≡ j = same_number k j is in
-            let x_is : x ≡ b = got_set team k b x low (subst (λ i. slice_get (slice_set team k b) i ≡ Some x) (sym j_is) at) in
+            let x_is : x ≡ b = (let there = sym (subst (λ i. slice_get (slice_set team k b) i ≡ Some x) (sym j_is) at) ∙ get-set_same team k b low in cc) in
             subst (λ i. IsActing w lacks more i x) j_is (subst (IsActing w lacks more k) (sym x_is) (acting_reply w lacks entries more k a b step.one step.made.reply acting_so step.asks step.made.heard step.made.long own_heard))
-        by false is = acting_heard w lacks entries more j x (others_heard j is) (played.acting j x (sym (got_other team k b j (λ same. differ k j is (sym same))) ∙ at))
+        by false is = acting_heard w lacks entries more j x (others_heard j is) (played.acting j x (sym (get-set_other team k b j (λ same. differ k j is (sym same))) ∙ at))
 
     pub step_played : IsPlayed workers lacks later (slice_set team k b) more
     step_played =

@@ -1,7 +1,8 @@
 -- A port and the meter answer each ask of a run as the run has it.
-use Rattle.std.proofs.Common.{◌≡◌, ℕ, zero, suc, Bool, true, false, ◌&&◌, List, [], ◌∷◌, ◌++◌, length, take, Option, Some, None, refl, sym, ap, ◌∙◌}
+use Rattle.std.proofs.Common.{◌≡◌, ℕ, Bool, true, false, ◌&&◌, List, [], ◌∷◌, ◌++◌, length, take, Option, Some, None, refl, sym, ap, ◌∙◌}
 use Rattle.std.specs.Prelude.{◌==◌, if◌then◌else◌, nat_le, not}
 use Rattle.std.specs.Option.{option_map_or}
+use Rattle.std.proofs.lemmas.List.{length-take, take_min}
 use Rattle.ccr_base.specs.declared.names.Place.TheVariants as places
 use Rattle.ccr_base.specs.declared.patterns.Slot.{Slot}
 use Rattle.ccr_base.specs.Selection.{fitting, is_choosable}
@@ -63,9 +64,7 @@ kept_number port [] = refl
 kept_number port (note ∷ earlier) = kept_number (ports.after port note) earlier ∙ note_number port note
 
 take-taken : {X : Type 0} (n : ℕ) (xs : List X) → take (length (take n xs)) xs ≡ take n xs
-take-taken zero xs = refl
-take-taken (suc n) [] = refl
-take-taken (suc n) (x ∷ xs) = ap (λ front. x ∷ front) (take-taken n xs)
+take-taken n xs = ap (λ k. take k xs) (length-take n xs) ∙ take_min n xs
 
 -- what is noted of a claim hands out what the object hands out
 claims_alike : (port : PortState) (slot : Slot) → claim_reply slot port (ports.claim_note port slot) ≡ port_objects.claim_reply (claimed port slot)

@@ -2,6 +2,8 @@
 use Rattle.std.proofs.Common.{◌≡◌, ℕ, Bool, true, false, List, [], ◌∷◌, ◌++◌, map, Option, Some, None, refl, sym, ap, ◌∙◌, subst}
 use Rattle.std.specs.Prelude.{if◌then◌else◌, slice_get, drop, nat_le}
 use Rattle.std.specs.Option.{option_map}
+use Rattle.std.proofs.lemmas.Option.{slice_get-map}
+use Rattle.std.proofs.lemmas.List.{drop-map}
 use Rattle.ccr_base.specs.declared.names.Place.TheVariants as places
 use Rattle.ccr_base.specs.declared.names.TaskId.{TaskId}
 use Rattle.ccr_base.specs.declared.tasks.Task.{Task}
@@ -14,6 +16,7 @@ use Rattle.ccr_base.proofs.Options.{map_map}
 use Rattle.ccr_model.proofs.FiredTasks.{IsFired}
 use Rattle.ccr_model.proofs.Members.{Among}
 use Rattle.ccr_model.proofs.WhoWasPut.{ArePlaced-legal, QueuedFacts-queued}
+use Rattle.ccr_model.proofs.TaskLists.{named_has}
 use Rattle.ccr_places.specs.declared.notes.Note.{Note}
 use Rattle.ccr_places.specs.declared.notes.Note.TheVariants as notes
 use Rattle.ccr_places.specs.Queues as queues
@@ -35,7 +38,7 @@ use Rattle.ccr_net.proofs.Parts.NotesAnswerAsks.{Given, given_some}
 use Rattle.ccr_net.proofs.Played.HandedTasksAreTold.{PutTells}
 use Rattle.ccr_net.proofs.Played.ObjectsFollowNotes.{AnswersAs, told_queue}
 use Rattle.ccr_net.proofs.Parts.OneMoreEntry.{queue_at-push, visible-push}
-use Rattle.ccr_net.proofs.Played.ToldTasksStay.{map_behind, map_drop, map_first, named_has, views-stay}
+use Rattle.ccr_net.proofs.Played.ToldTasksStay.{map_behind, views-stay}
 use Rattle.ccr_net.proofs.Parts.WorkMatches.{view-stays}
 
 -- who is queued has fired
@@ -85,7 +88,7 @@ module _ (w : Parts) (n : ℕ) (lacks : Lacks) (es : List Entry) (e : Entry) (ho
   stays_with new same = λ j. Queue (record { state = new; tasks = (sym queued_stay ∙ ap (whole_queued w later) (sym same)) j })
 
   first_so : option_map (view w later) (queues.take_note state) ≡ slice_get told.tasks 0
-  first_so = map_map (view w later) (λ (x : Queued). x.task) (slice_get state.queued 0) ∙ sym (map_first (λ (x : Queued). view w later x.task) state.queued) ∙ ap (λ ts. slice_get ts 0) queued_stay
+  first_so = map_map (view w later) (λ (x : Queued). x.task) (slice_get state.queued 0) ∙ sym (slice_get-map (λ (x : Queued). view w later x.task) state.queued 0) ∙ ap (λ ts. slice_get ts 0) queued_stay
 
   dropped_so : option_map (view w later) (queues.put_note state) ≡ objects.dropped told
   dropped_so = by (nat_le 1 (queues.drop_count state))
@@ -97,14 +100,14 @@ module _ (w : Parts) (n : ℕ) (lacks : Lacks) (es : List Entry) (e : Entry) (ho
   put_so : (task : Task) → IsFired h task.id → task ≡ view w h task.id → drop (queues.drop_count state) told.tasks ++ task ∷ [] ≡ whole_queued w later (queues.after_put state task.id).queued
   put_so task fires is =
       (λ j. drop (queues.drop_count state) (sym queued_stay j) ++ (is ∙ sym now) j ∷ [])
-      ∙ ap (λ ts. ts ++ view w later task.id ∷ []) (sym (map_drop (λ (x : Queued). view w later x.task) (queues.drop_count state) state.queued))
+      ∙ ap (λ ts. ts ++ view w later task.id ∷ []) (drop-map (λ (x : Queued). view w later x.task) (queues.drop_count state) state.queued)
       ∙ sym (map_behind (λ (x : Queued). view w later x.task) (drop (queues.drop_count state) state.queued) _)
     where
       now : view w later task.id ≡ view w h task.id
       now = ap (λ g. view w g task.id) (visible-push es e) ∙ view-stays w h (event_of e) task.id fires
 
   taken_so : drop 1 told.tasks ≡ whole_queued w later (queues.after_take state).queued
-  taken_so = ap (drop 1) (sym queued_stay) ∙ sym (map_drop (λ (x : Queued). view w later x.task) 1 state.queued)
+  taken_so = ap (drop 1) (sym queued_stay) ∙ drop-map (λ (x : Queued). view w later x.task) 1 state.queued
 
   by_ask : (ask : Ask) → e.place ≡ places.Queue q → queue_note state ask ≡ Some e.note → PutTells w h ask → AnswersAs w es (at_place (places.Queue q) ask) e
   by_ask (asks.Book t r) there gives tells =

@@ -2,6 +2,7 @@
 use Rattle.std.proofs.Common.{◌≡◌, ℕ, true, false, List, [], ◌∷◌, ◌++◌, length, map, Option, Some, None, refl, sym, arith, ap, ◌∙◌}
 use Rattle.std.specs.Prelude.{if◌then◌else◌, drop, nat_lt, not}
 use Rattle.std.proofs.lemmas.Bool.Decides.{nat_tests}
+use Rattle.std.proofs.lemmas.List.{drop-map, map-id}
 use Rattle.ccr_base.specs.declared.names.MsgId.{MsgId}
 use Rattle.ccr_base.specs.declared.names.Place.TheVariants as places
 use Rattle.ccr_base.specs.declared.names.Spot.{Spot}
@@ -14,6 +15,7 @@ use Rattle.ccr_base.specs.Names.{same_spot, has_task}
 use Rattle.ccr_wiring.specs.declared.parts.Parts.{Parts}
 use Rattle.ccr_model.specs.declared.history.Event.{Event}
 use Rattle.ccr_base.proofs.Booleans.{both, eq-self}
+use Rattle.ccr_base.proofs.Lists.{map_twice}
 use Rattle.ccr_model.proofs.FiredTasks.{IsFired}
 use Rattle.ccr_places.specs.declared.notes.Note.{Note}
 use Rattle.ccr_places.specs.declared.notes.Note.TheVariants as notes
@@ -41,7 +43,7 @@ use Rattle.ccr_net.proofs.Played.OtherObjectsStay.{site_fired}
 use Rattle.ccr_net.proofs.Played.ObjectsFollowNotes.{AnswersAs, told_site}
 use Rattle.ccr_net.proofs.Parts.OneMoreEntry.{visible-push}
 use Rattle.ccr_net.proofs.Parts.SitesMatch.{site_at-push}
-use Rattle.ccr_net.proofs.Played.ToldTasksStay.{map_behind, map_drop, suspended_view-stays, suspended_views-stay}
+use Rattle.ccr_net.proofs.Played.ToldTasksStay.{map_behind, suspended_view-stays, suspended_views-stay}
 
 -- the task that the ask commits or suspends
 abbrev pub SiteTells : Parts → List Entry → Entry → ℕ → ℕ → Ask → Type 0
@@ -50,8 +52,7 @@ SiteTells w es e b k (asks.Suspend task) = IsFired (visible es) task.id × (task
 SiteTells w es e b k _ = Unit {0}
 
 names_so : (w : Parts) (h : List Event) (ts : List TaskId) → map (λ (t : Task). t.id) (map (suspended_view w h) ts) ≡ ts
-names_so w h [] = refl
-names_so w h (t ∷ ts) = ap (λ us. t ∷ us) (names_so w h ts)
+names_so w h ts = map_twice (λ (t : Task). t.id) (suspended_view w h) ts ∙ map-id ts
 
 some_there : {X : Type 0} (x : X) (xs : List X) → nat_lt 0 (length (x ∷ xs)) ≡ true
 some_there x xs = grind (arith, nat_tests)
@@ -125,7 +126,7 @@ module _ (w : Parts) (n : ℕ) (lacks : Lacks) (es : List Entry) (e : Entry) (ho
       of_list (u ∷ us) is = played (asks.Commit task ms) (replies.Fired (Some (resumed (suspended_view w h u) task)) []) (notes.Fired task.id task.spot ms []) there note
           (λ j. replies.Fired (if waits_so j then None else Some (sym whole j)) [])
           (answered (u ∷ us) is)
-          (ap Site (after_so ∙ ap (λ c. if c then record told { suspended = drop 1 told.suspended; fired = told.fired ++ task.id ∷ [] } else told) (ap (λ (vs : List TaskId). nat_lt 0 (length (map (suspended_view w h) vs))) is ∙ some_there (suspended_view w h u) (map (suspended_view w h) us))) ∙ (λ j. Site (record { branch = state.branch; site = state.site; suspended = (ap (drop 1) (sym suspended_stay) ∙ sym (map_drop (suspended_view w later) 1 state.suspended)) j; fired = state.fired ++ task.id ∷ [] })))
+          (ap Site (after_so ∙ ap (λ c. if c then record told { suspended = drop 1 told.suspended; fired = told.fired ++ task.id ∷ [] } else told) (ap (λ (vs : List TaskId). nat_lt 0 (length (map (suspended_view w h) vs))) is ∙ some_there (suspended_view w h u) (map (suspended_view w h) us))) ∙ (λ j. Site (record { branch = state.branch; site = state.site; suspended = (ap (drop 1) (sym suspended_stay) ∙ drop-map (suspended_view w later) 1 state.suspended) j; fired = state.fired ++ task.id ∷ [] })))
         where
           note : e.note ≡ notes.Fired task.id task.spot ms []
           note = noted None (rw is refl)

@@ -1,10 +1,8 @@
 -- What a history tells of tasks that fired stays, and so do the lists of whole tasks that objects keep.
-use Rattle.std.proofs.Common.{◌≡◌, ℕ, zero, suc, true, List, [], ◌∷◌, ◌++◌, length, map, inl, inr, refl, sym, ap, ◌∙◌}
-use Rattle.std.specs.Prelude.{slice_get, drop}
-use Rattle.std.specs.Option.{option_map}
+use Rattle.std.proofs.Common.{◌≡◌, true, List, [], ◌∷◌, ◌++◌, length, map, inl, inr, refl, ap, ◌∙◌}
 use Rattle.ccr_base.specs.declared.names.TaskId.{TaskId}
 use Rattle.ccr_base.specs.declared.names.Spot.{Spot}
-use Rattle.ccr_base.specs.Names.{same_task, same_spot, has_task}
+use Rattle.ccr_base.specs.Names.{same_spot, has_task}
 use Rattle.ccr_wiring.specs.declared.parts.Parts.{Parts}
 use Rattle.ccr_model.specs.declared.history.Event.{Event}
 use Rattle.ccr_wiring.specs.Wirings.{next_site}
@@ -13,10 +11,8 @@ use Rattle.ccr_model.specs.Sites.{suspended, yields_at, yielded_at}
 use Rattle.ccr_base.proofs.Options.{some_of, some_map}
 use Rattle.ccr_model.proofs.TaskLists.{has_task-drop}
 use Rattle.ccr_model.proofs.TasksLeft.{of_filter}
-use Rattle.ccr_base.proofs.Booleans.{or_left, or_right}
 use Rattle.ccr_model.proofs.FiredTasks.{IsFired}
 use Rattle.ccr_model.proofs.Members.{Among}
-use Rattle.ccr_base.proofs.SameNames.{same_task-self}
 use Rattle.ccr_model.proofs.Stable.{play_of-append}
 use Rattle.ccr_runs.specs.Views.{view, suspended_view}
 use Rattle.ccr_net.proofs.Parts.WorkMatches.{view-stays}
@@ -27,25 +23,6 @@ pub use Rattle.std.proofs.lemmas.List.{map-append as map_behind}
 pub map_on : {X Y : Type 0} (f g : X → Y) (xs : List X) → ((x : X) → Among x xs → f x ≡ g x) → map f xs ≡ map g xs
 map_on f g [] same = refl
 map_on f g (x ∷ xs) same = ap (λ y. y ∷ map f xs) (same x (inl refl)) ∙ ap (λ ys. g x ∷ ys) (map_on f g xs (λ y is. same y (inr is)))
-
-pub map_twice : {X Y Z : Type 0} (f : Y → Z) (g : X → Y) (xs : List X) → map f (map g xs) ≡ map (λ x. f (g x)) xs
-map_twice f g [] = refl
-map_twice f g (x ∷ xs) = ap (λ ys. f (g x) ∷ ys) (map_twice f g xs)
-
-pub map_drop : {X Y : Type 0} (f : X → Y) (n : ℕ) (xs : List X) → map f (drop n xs) ≡ drop n (map f xs)
-map_drop f zero xs = refl
-map_drop f (suc n) [] = refl
-map_drop f (suc n) (x ∷ xs) = map_drop f n xs
-
-pub map_first : {X Y : Type 0} (f : X → Y) (xs : List X) → slice_get (map f xs) 0 ≡ option_map f (slice_get xs 0)
-map_first f [] = refl
-map_first f (x ∷ xs) = refl
-
--- a member's name is among the names
-pub named_has : {X : Type 0} (name : X → TaskId) (xs : List X) (x : X) → Among x xs → has_task (map name xs) (name x) ≡ true
-named_has name [] x is = absurd is
-named_has name (y ∷ xs) x (inl e) = or_left (same_task (name x) (name y)) (has_task (map name xs) (name x)) (ap (λ z. same_task (name x) (name z)) (sym e) ∙ same_task-self (name x))
-named_has name (y ∷ xs) x (inr is) = or_right (same_task (name x) (name y)) (has_task (map name xs) (name x)) (named_has name xs x is)
 
 -- ---- tasks that fired
 

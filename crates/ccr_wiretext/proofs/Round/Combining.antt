@@ -16,6 +16,7 @@ use Rattle.ccr_wiring.specs.declared.parts.Kind.TheVariants as arbiters
 use Rattle.ccr_wiring.specs.Groups.{is_interleave}
 use Rattle.ccr_wiring.specs.Repeats.{members_in_all}
 use Rattle.ccr_wiring.specs.PartNames.{arbiter_name}
+use Rattle.ccr_wiring.proofs.Apart.{not_before}
 use Rattle.ccr_wiretext.specs.declared.keyword.Keyword.TheVariants as keywords
 use Rattle.ccr_wiretext.specs.declared.named.Named.TheVariants as kinds
 use Rattle.ccr_wiretext.specs.Keywords.{keyword}
@@ -26,11 +27,11 @@ use Rattle.ccr_wiretext.specs.Grammar.{AreInterleaves}
 use Rattle.ccr_wiretext.specs.Spelling.{combine_words}
 use Rattle.ccr_wiretext.proofs.Each.{both}
 use Rattle.ccr_base.specs.Lists.{Each, has_number, are_apart}
+use Rattle.ccr_base.proofs.Lists.{any_parts}
 use Rattle.ccr_wiretext.proofs.Fit.{InterleaveFit, DomainFit}
 use Rattle.ccr_wiretext.proofs.Round.Leads.{outside, IsStep, Leads, walk_lines, room_before, each_at}
-use Rattle.ccr_wiretext.proofs.Round.Namings.{Good, IsKnown, names_of, any_parts, named_at, is_new}
+use Rattle.ccr_wiretext.proofs.Round.Namings.{Good, IsKnown, names_of, named_at, is_new}
 use Rattle.ccr_wiretext.proofs.Round.Terms.{word_more, name_word}
-use Rattle.ccr_wiretext.proofs.Round.Known.{not_before}
 use Rattle.ccr_wiretext.proofs.Round.Firing.{branch_entries, arbiter_entries}
 use Rattle.ccr_wiretext.proofs.Round.Arbiters.{firing_entries}
 

@@ -17,9 +17,10 @@ use Rattle.ccr_wiring.specs.Versions.{handler_is_newer, poster_is_newer}
 use Rattle.ccr_wiring.specs.Spots.{times, named_ports}
 use Rattle.ccr_wiring.proofs.Soundness.{below}
 use Rattle.ccr_wiring.proofs.Validity.{NoCodes, within}
+use Rattle.ccr_wiring.proofs.DomainsOfOwnKind.{member_fails}
 use Rattle.ccr_wiretext.proofs.Each.{neither}
 use Rattle.ccr_wiretext.proofs.Fit.{PolicyFit, OldFit, ArbiterFit, SetFit, HandlerFit, PosterFit, DomainFit}
-use Rattle.ccr_wiretext.proofs.SpotCounts.{Uncrowded, times_none, among}
+use Rattle.ccr_wiretext.proofs.SpotCounts.{Uncrowded, times_none}
 use Rattle.ccr_wiretext.proofs.Sound.{Counts, Fits}
 use Rattle.ccr_wiretext.proofs.Round.Namings.{Good}
 use Rattle.ccr_wiretext.proofs.Round.Validity.{each_if, none_of_two, policy_fits, set_fits, handler_fits, arbiter_fits, poster_fits, domain_fits, newer_in, old_each}
@@ -163,5 +164,5 @@ valid_fine parts none port = by (list_any (λ other. other == port) ports) refl
     ports = named_ports parts
 
     by : (t : Bool) → list_any (λ other. other == port) ports ≡ t → times port ports ≤ 16
-    by true is = at_most 16 (times port ports) (among (λ p. nat_lt 16 (times p ports)) port ports none.spots is)
+    by true is = at_most 16 (times port ports) (member_fails (λ p. nat_lt 16 (times p ports)) ports port is none.spots)
     by false is = let nothing = times_none port ports is in omega arith

@@ -1,12 +1,8 @@
 -- What the text may refer to: that a number's name is declared and means this number, and lists of such names.
-use Rattle.std.proofs.Common.{◌≡◌, ℕ, ◌<◌, Bool, true, false, List, [], ◌∷◌, ◌++◌, length, map, inl, refl, ap, ◌∙◌, arith, append_assoc}
-use Rattle.std.specs.Prelude.{◌==◌, not}
-use Rattle.std.specs.List.{list_any}
-use Rattle.std.proofs.lemmas.Bool.Decides.{nat_tests}
+use Rattle.std.proofs.Common.{◌≡◌, ℕ, ◌<◌, true, List, [], ◌∷◌, ◌++◌, length, map, inl, refl, ap, ◌∙◌, append_assoc}
 use Rattle.std.proofs.lemmas.Option.{slice_get-map}
-use Rattle.ccr_base.proofs.Booleans.{not_true}
 use Rattle.ccr_base.proofs.Options.{get-some}
-use Rattle.ccr_base.specs.Lists.{has_number, are_apart}
+use Rattle.ccr_base.specs.Lists.{are_apart}
 use Rattle.ccr_text.specs.Spelling.{AreWords}
 use Rattle.ccr_wiring.specs.declared.parts.Parts.{Parts}
 use Rattle.ccr_wiring.specs.declared.parts.QueuePart.{QueuePart}
@@ -18,7 +14,7 @@ use Rattle.ccr_wiretext.specs.Names.{Naming, as_port, as_queue, as_cause, as_han
 use Rattle.ccr_wiretext.specs.Drafts.{Declared}
 use Rattle.ccr_wiretext.specs.Grammar.{IsPort, ArePorts, AreCauses}
 use Rattle.ccr_wiring.specs.PartNames.{port_name, queue_name, cause_name, handler_name}
-use Rattle.ccr_wiretext.proofs.Each.{both, neither}
+use Rattle.ccr_wiring.proofs.Apart.{not_before}
 use Rattle.ccr_wiretext.proofs.Fit.{PortsFit}
 use Rattle.ccr_wiretext.proofs.Round.Namings.{Good, IsKnown, entries, names_of, known_get, known_more}
 use Rattle.ccr_wiretext.proofs.Round.Terms.{IsWord, name_word, name_plain}
@@ -94,19 +90,6 @@ port_says parts draft knows port less = let known = knows port less in inl (name
 
 pub port_word : (parts : Parts) (names : Naming) → KnowsPorts parts names → (port : ℕ) → port < length parts.ports → IsWord (port_name parts port)
 port_word parts names knows port less = name_word (port_name parts port) (knows port less).formed
-
-behind_none : (f : ℕ → Bool) (xs : List ℕ) (x : ℕ) (ys : List ℕ) → list_any f (xs ++ x ∷ ys) ≡ false → f x ≡ false
-behind_none f [] x ys e = (neither (f x) (list_any f ys) e).0
-behind_none f (y ∷ xs) x ys e = behind_none f xs x ys (neither (f y) (list_any f (xs ++ x ∷ ys)) e).1
-
--- a number of numbers that are apart is none of those before it
-pub not_before : (found : List ℕ) (x : ℕ) (xs : List ℕ) → are_apart (found ++ x ∷ xs) ≡ true → has_number found x ≡ false
-not_before [] x xs apart = refl
-not_before (y ∷ found) x xs apart =
-    let parts = both (not (has_number (found ++ x ∷ xs) y)) (are_apart (found ++ x ∷ xs)) apart in
-    let other = behind_none (λ other. other == y) found x xs (not_true (has_number (found ++ x ∷ xs) y) parts.0) in
-    let turned : (y == x) ≡ false = grind (arith, nat_tests, other) in
-    rw (turned, not_before found x xs parts.1) refl
 
 pub ports_say : (parts : Parts) (draft : Declared) → KnowsPorts parts draft.names → (found ports : List ℕ) → PortsFit (length parts.ports) ports → are_apart (found ++ ports) ≡ true
     → ArePorts draft found ports (map (port_name parts) ports)

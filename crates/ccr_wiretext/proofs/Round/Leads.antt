@@ -1,8 +1,8 @@
 -- Lines, given by their words, that lead from what is declared to what is declared behind them.
-use Rattle.std.proofs.Common.{◌≡◌, ℕ, ◌+◌, ◌<◌, ◌≤◌, true, false, List, [], ◌∷◌, ◌++◌, length, map, get_or, inr, refl, sym, ap, subst, ◌∙◌, arith, append_assoc, append-nil, length-append}
+use Rattle.std.proofs.Common.{◌≡◌, ℕ, ◌+◌, ◌<◌, ◌≤◌, true, false, List, [], ◌∷◌, ◌++◌, length, map, inr, refl, sym, ap, subst, ◌∙◌, arith, append_assoc, append-nil, length-append}
 use Rattle.std.specs.Prelude.{sum, flat_map}
 use Rattle.std.specs.List.{All}
-use Rattle.std.proofs.lemmas.List.{map-append, get_or_at}
+use Rattle.std.proofs.lemmas.List.{map-append}
 use Rattle.std.proofs.lemmas.List.Sums.{sum_by-append}
 use Rattle.ccr_text.specs.Spelling.{AreWords, AreLines as AreClean, spelled_lines}
 use Rattle.ccr_text.specs.Fields.{Words}
@@ -16,6 +16,7 @@ use Rattle.ccr_wiretext.specs.Names.{Naming}
 use Rattle.ccr_wiretext.specs.Drafts.{Declared}
 use Rattle.ccr_wiretext.specs.Lines.{Says, AreLines}
 use Rattle.ccr_base.specs.Lists.{Each}
+use Rattle.ccr_base.proofs.Lists.{all_inside, all_from_each}
 
 -- what is declared behind the budget line, in an open block or in none
 abbrev pub inside : Parts → Naming → List ℕ → Block → Declared
@@ -93,19 +94,12 @@ room_for {X} f limit done x rest all e room =
     let one : sum (f x ∷ []) ≡ f x = omega arith in
     omega (arith, same, split, behind, one)
 
--- what holds of each part holds of the next
-pub each_at : {X : Type 0} (P : X → Type 0) (done : List X) (x : X) (rest all : List X) → done ++ x ∷ rest ≡ all → Each P all → P x
-each_at {X} P done x rest all e each = go done (subst (Each P) (sym e) each)
-  where
-    go : (xs : List X) → Each P (xs ++ x ∷ rest) → P x
-    go [] some = some.0
-    go (y ∷ ys) some = go ys some.1
-
+-- what holds of all parts holds of the next
 pub all_at : {X : Type 0} (P : X → Type 0) (done : List X) (x : X) (rest all : List X) → done ++ x ∷ rest ≡ all → All P all → P x
-all_at {X} P done x rest all e every =
-    let less = room_before (length all) done x rest all e (omega arith) in
-    let same : get_or all (length done) x ≡ x = ap (λ xs. get_or xs (length done) x) (sym e) ∙ get_or_at done x rest x (length done) refl in
-    subst P same (every (length done) x less)
+all_at P done x rest all e every = all_inside P done x rest (subst (All P) (sym e) every)
+
+pub each_at : {X : Type 0} (P : X → Type 0) (done : List X) (x : X) (rest all : List X) → done ++ x ∷ rest ≡ all → Each P all → P x
+each_at P done x rest all e each = all_at P done x rest all e (all_from_each P all each)
 
 -- ---- what such lines are
 

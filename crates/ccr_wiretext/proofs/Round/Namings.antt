@@ -1,13 +1,14 @@
 -- The names that the canonical lines declare, in their order, and that a name means what it was declared for.
 use Rattle.std.proofs.Common.{◌≡◌, ℕ, zero, suc, ◌+◌, Bool, true, false, cond, List, [], ◌∷◌, ◌++◌, length, map, Option, Some, None, refl, sym, ap, subst, ◌∙◌, arith, append_assoc, zero-add, add-zero}
 use Rattle.std.specs.Prelude.{not}
-use Rattle.std.specs.List.{list_any, slice_get}
+use Rattle.std.specs.List.{slice_get}
 use Rattle.std.specs.Option.{option_and_then}
 use Rattle.std.specs.Str.{bytes_eq}
 use Rattle.std.proofs.lemmas.List.{map-append}
 use Rattle.std.proofs.lemmas.Option.{same_Some}
 use Rattle.ccr_base.proofs.Texts.{same_text}
 use Rattle.ccr_base.proofs.Booleans.{not_refuted}
+use Rattle.ccr_base.proofs.Lists.{any_parts}
 use Rattle.ccr_text.specs.Words.{is_name_of}
 use Rattle.ccr_text.specs.Names.{meaning_of}
 use Rattle.ccr_wiring.specs.Names.{has_name, has_repeated, has_malformed}
@@ -36,12 +37,6 @@ names_append xs ys = map-append (λ (entry : List ℕ × Named). entry.0) xs ys
 pub names_entries : {X : Type 0} (name : X → List ℕ) (make : ℕ → Named) (start : ℕ) (xs : List X) → names_of (entries name make start xs) ≡ map name xs
 names_entries name make start [] = refl
 names_entries name make start (x ∷ xs) = ap (λ (v : List (List ℕ)). name x ∷ v) (names_entries name make (start + 1) xs)
-
-pub any_parts : {X : Type 0} (f : X → Bool) (xs ys : List X) → list_any f (xs ++ ys) ≡ false → (list_any f xs ≡ false) × (list_any f ys ≡ false)
-any_parts f [] ys e = (refl, e)
-any_parts f (x ∷ xs) ys e =
-    let parts = neither (f x) (list_any f (xs ++ ys)) e in
-    let rest = any_parts f xs ys parts.1 in (rw (parts.0, rest.0) refl, rest.1)
 
 pub good_front : (xs ys : List (List ℕ)) → Good (xs ++ ys) → Good xs
 good_front xs ys good = record { apart = apart_left xs ys good.apart; formed = (any_parts (λ name. not (is_name_of name)) xs ys good.formed).0 }

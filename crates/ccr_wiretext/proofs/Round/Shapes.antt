@@ -15,6 +15,7 @@ use Rattle.ccr_wiring.specs.Repeats.{slot_ports}
 use Rattle.ccr_wiring.specs.Spots.{branch_named, times}
 use Rattle.ccr_wiring.specs.PartNames.{port_name, queue_name, handler_name}
 use Rattle.ccr_wiring.proofs.Lists.{any_none}
+use Rattle.ccr_wiring.proofs.Apart.{not_before}
 use Rattle.ccr_wiretext.specs.Names.{Naming}
 use Rattle.ccr_wiretext.specs.Drafts.{Declared}
 use Rattle.ccr_wiretext.specs.Forms.{crowds}
@@ -27,7 +28,7 @@ use Rattle.ccr_wiretext.proofs.Fit.{SlotFit, PatternFit, BranchFit}
 use Rattle.ccr_wiretext.proofs.SpotCounts.{Uncrowded}
 use Rattle.ccr_base.proofs.Lists.{each_all}
 use Rattle.ccr_wiretext.proofs.Round.Terms.{word_more, words_on, name_word, number_word, within_says, pred_says, pred_clean}
-use Rattle.ccr_wiretext.proofs.Round.Known.{KnowsPorts, KnowsQueues, KnowsHandlers, port_says, port_word, not_before}
+use Rattle.ccr_wiretext.proofs.Round.Known.{KnowsPorts, KnowsQueues, KnowsHandlers, port_says, port_word}
 
 -- ---- slots
 

@@ -11,7 +11,7 @@ use Rattle.ccr_base.specs.declared.handlers.Expr.TheVariants as exprs
 use Rattle.ccr_base.specs.declared.patterns.Pred.{Pred}
 use Rattle.ccr_base.specs.declared.patterns.Pred.TheVariants as preds
 use Rattle.ccr_base.proofs.Booleans.{not_true}
-use Rattle.ccr_base.proofs.Lists.{all_weaker}
+use Rattle.ccr_base.proofs.Lists.{all_weaker, all_both}
 use Rattle.ccr_text.specs.Words.{is_graphic, value_after, is_digits, may_be_in_name, is_name_of}
 use Rattle.ccr_text.specs.Spelling.{AreWords}
 use Rattle.ccr_text.specs.Fields.{Words}
@@ -109,14 +109,10 @@ numbers_again : AreReadAgain → (value : List ℕ) → Each IsNumeral value →
 numbers_again again [] each = tt
 numbers_again again (n ∷ value) each = (again n each.0, numbers_again again value each.1)
 
-graphic-append : (xs ys : List ℕ) → list_all is_graphic xs ≡ true → list_all is_graphic ys ≡ true → list_all is_graphic (xs ++ ys) ≡ true
-graphic-append [] ys first second = second
-graphic-append (b ∷ xs) ys first second = let parts = both (is_graphic b) (list_all is_graphic xs) first in rw (parts.0, graphic-append xs ys parts.1 second) refl
-
 -- two words with a comma between them
 with_comma : (xs ys : List ℕ) → IsWord xs → IsWord ys → IsWord (xs ++ 44 ∷ ys)
 with_comma [] ys first second = absurd (let h : true ≡ false = first.0 in cc)
-with_comma (b ∷ xs) ys first second = (grind (arith, nat_tests), graphic-append (b ∷ xs) (44 ∷ ys) first.1 second.1)
+with_comma (b ∷ xs) ys first second = (grind (arith, nat_tests), all_both is_graphic (b ∷ xs) (44 ∷ ys) first.1 second.1)
 
 joined_word : AreReadAgain → (value : List ℕ) → Each IsNumeral value → 1 ≤ length value → IsWord (value_word value)
 joined_word again [] each some = absurd (omega arith)

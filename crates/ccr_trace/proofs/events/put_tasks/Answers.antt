@@ -1,7 +1,7 @@
 use Rattle.std.proofs.Common.{arith}
 use Rattle.std.proofs.lemmas.Grind.{common_steps}
+use Rattle.std.proofs.lemmas.List.Elements.{All-more}
 use Rattle.ccr_trace.specs.Said.{IsTask}
-use Rattle.ccr_trace.proofs.Each.{All-more}
 use Rattle.ccr_trace.proofs.events.put_tasks.Goals as goal
 
 pub loop-task-preserved : goal.loop-task-preserved

@@ -1,5 +1,6 @@
 use Rattle.std.proofs.Common.{◌∙◌, ◌^◌, ◌<◌, length, sym, ap, subst, List, map}
 use Rattle.std.specs.Prelude.{All}
+use Rattle.std.proofs.lemmas.List.Elements.{All-map}
 use Rattle.ccr_turns.specs.Histories.{history_stamps}
 use Rattle.ccr_turns.specs.Lists.{Rises}
 use Rattle.ccr_turns.specs.Locks.{IsSeatOf}
@@ -7,14 +8,14 @@ use Rattle.ccr_runs.specs.Played.{entries_of}
 use Rattle.ccr_runs.specs.Orders.{merged}
 use Rattle.ccr_space.specs.Closes.{PlaceAndHistory, IsOfLocks}
 use Rattle.ccr_space.specs.Spaces.{Pass, wiring_of}
-use Rattle.ccr_space.proofs.Closing.{all_mapped, closed_by, is_whole}
+use Rattle.ccr_space.proofs.Closing.{closed_by, is_whole}
 use Rattle.ccr_space.proofs.space.close.Space.close.Goals as goal
 
 pub unlock-requires-clause-seats : goal.unlock-requires-clause-seats
 unlock-requires-clause-seats c =
     let these = c.from_vec.ensures ∙ (c.seats_of-seats.ensures.seats ∙ ap (map (λ (pass : Pass). pass.seat)) c.into_vec-passes.ensures) in
     subst (λ (seats : List _). All (λ seat. IsSeatOf c.args.self.turns seat) seats) (sym these)
-    (all_mapped (λ seat. IsSeatOf c.args.self.turns seat) (λ (pass : Pass). pass.seat) c.args.passes (λ k d l. (c.requires.passes k d l).seat))
+    (All-map (λ seat. IsSeatOf c.args.self.turns seat) (λ (pass : Pass). pass.seat) c.args.passes (λ k d l. (c.requires.passes k d l).seat))
 
 pub merge-requires : goal.merge-requires
 merge-requires c =

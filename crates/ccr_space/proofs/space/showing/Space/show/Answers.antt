@@ -2,6 +2,7 @@ use Rattle.std.proofs.Common.{◌∙◌, sym, ap, subst, refl, List, map, length
 use Rattle.std.specs.Prelude.{All}
 use Rattle.std.proofs.Math.ListN.{get_or}
 use Rattle.std.proofs.lemmas.List.{length-map}
+use Rattle.std.proofs.lemmas.List.Elements.{All-map}
 use Rattle.ccr_turns.specs.Histories.{history_stamps, keeps}
 use Rattle.ccr_turns.specs.Lists.{Rises}
 use Rattle.ccr_turns.specs.Locks.{IsSeatOf, keep_of, sifted_of}
@@ -10,7 +11,7 @@ use Rattle.ccr_runs.specs.Orders.{merged}
 use Rattle.ccr_space.specs.Closes.{PlaceAndHistory, told}
 use Rattle.ccr_space.specs.Shows.{acts_shown}
 use Rattle.ccr_space.specs.Spaces.{Pass, wiring_of}
-use Rattle.ccr_space.proofs.Closing.{all_mapped, closed_by}
+use Rattle.ccr_space.proofs.Closing.{closed_by}
 use Rattle.ccr_space.proofs.Histories.{history_is, sifted_rises}
 use Rattle.ccr_space.proofs.space.showing.Space.show.Goals as goal
 
@@ -18,7 +19,7 @@ pub unlock-requires-clause-seats : goal.unlock-requires-clause-seats
 unlock-requires-clause-seats c =
     let these = c.from_vec.ensures ∙ (c.seats_of-seats.ensures.seats ∙ ap (map (λ (pass : Pass). pass.seat)) c.into_vec-passes.ensures) in
     subst (λ (seats : List _). All (λ seat. IsSeatOf c.args.self.turns seat) seats) (sym these)
-    (all_mapped (λ seat. IsSeatOf c.args.self.turns seat) (λ (pass : Pass). pass.seat) c.args.passes (λ k d l. (c.requires.passes k d l).seat))
+    (All-map (λ seat. IsSeatOf c.args.self.turns seat) (λ (pass : Pass). pass.seat) c.args.passes (λ k d l. (c.requires.passes k d l).seat))
 
 pub of-requires-clause-few : goal.of-requires-clause-few
 of-requires-clause-few c =
@@ -32,7 +33,7 @@ of-requires-clause-rising c =
     let its = c.in_ok-kept.ensures.locks in
     let keep = keep_of c.args.self.turns in
     subst (λ (kept : List PlaceAndHistory). All (λ (left : PlaceAndHistory). Rises 0 (history_stamps left.1)) kept) (sym its.part)
-    (all_mapped (λ (left : PlaceAndHistory). Rises 0 (history_stamps left.1)) (sifted_of (keeps keep has_event)) its.whole (λ k d l. sifted_rises keep 0 (get_or its.whole k d).1 (its.rising k d l)))
+    (All-map (λ (left : PlaceAndHistory). Rises 0 (history_stamps left.1)) (sifted_of (keeps keep has_event)) its.whole (λ k d l. sifted_rises keep 0 (get_or its.whole k d).1 (its.rising k d l)))
 
 pub returns-clause-run : goal.returns-clause-run
 returns-clause-run c =

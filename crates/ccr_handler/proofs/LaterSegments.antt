@@ -12,7 +12,7 @@ after_await-shorter (action ∷ actions) = of_test (is_await action) (after_awai
     of_test true less = omega arith
     of_test false less = omega arith
 
-actions_from-shorter : (segment : ℕ) (actions : List Action) → length (actions_from segment actions) ≤ length actions - segment
+pub actions_from-shorter : (segment : ℕ) (actions : List Action) → length (actions_from segment actions) ≤ length actions - segment
 actions_from-shorter zero actions = omega arith
 actions_from-shorter (suc segment) actions = omega (arith, after_await-shorter (actions_from segment actions), actions_from-shorter segment actions)
 
@@ -23,3 +23,7 @@ none_left (action ∷ actions) few = absurd (omega arith)
 -- there are no more segments than actions
 pub actions_from-past : (segment : ℕ) (actions : List Action) → length actions ≤ segment → actions_from segment actions ≡ []
 actions_from-past segment actions past = none_left (actions_from segment actions) (omega (arith, actions_from-shorter segment actions))
+
+-- no actions have no later segment
+pub actions_from-none : (segment : ℕ) → actions_from segment [] ≡ []
+actions_from-none segment = actions_from-past segment [] (omega arith)

@@ -32,7 +32,7 @@ lines_left ms number (poster ∷ posters) = (length poster.posts - made_by_poste
 abbrev pub script_messages : List Msg → ℕ
 script_messages ms = length (filter (λ (m : Msg). not (is_task_message m.id)) ms)
 
-both_kinds : (ms : List Msg) → length ms ≡ script_messages ms + task_messages ms
+pub both_kinds : (ms : List Msg) → length ms ≡ script_messages ms + task_messages ms
 both_kinds [] = refl
 both_kinds (m ∷ ms) = grind (arith, both_kinds ms)
 
