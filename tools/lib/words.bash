@@ -3,7 +3,7 @@
 declare -A options_of=(
   [check]="--json" [run]="--workers --schedule --json" [verify]="" [load]="--workers --size --json" [record]="--workers" [replay]="" [steps]="" [steady]=""
   [service]="--workers" [expand]="")
-all_words="check, run, verify, load, record, replay, steps, steady, service or expand"
+all_words="check, run, verify, load, record, replay, steps, steady, service or expand, as in: ./ccr run --workers 4 < FILE"
 
 usage() {
   printf '%s\ndone 1\n' "usage: ccr check|run|verify|load|record|replay|steps|steady|service|expand [--workers N] [--schedule] [--json] [--size N]"
@@ -24,9 +24,9 @@ usage: ccr WORD [OPTIONS] [FILE ..]          where no file is named, standard in
   service   runs a service, writes what became of each request         --workers N
   expand    writes the wiring that a service stands for
 
-  ccr run --workers 0 examples/first.ccr       on one thread: the same output each time
-  ccr run examples/service.ccr > out.txt       on threads: one of many legal outputs
-  ccr verify examples/service.ccr out.txt      is it legal, complete, quiet?
+  ccr run --workers 0 examples/first.ccr                   on one thread: the same output each time
+  ccr run --workers 4 < examples/service.ccr > out.txt     on threads: one of many legal outputs
+  ccr verify examples/service.ccr out.txt                  is it legal, complete, quiet?
 
 --workers is 0 to 16 (4; for load 0), --size 1 to 10,000 (1,000). Standard output ends with 'done N', and N is the exit status: 0 all is well, 1 other
 words are due, 2 the text is refused, 6 a task was shed, 7 the output is wrong, 8 the text is too long (docs/FORMATS.md, What the program writes).

@@ -2,7 +2,7 @@
 #![tactic(auto)]
 
 use ccr_base::{List, Name, OpenGate, OutOfMemory};
-use ccr_cli::{Failure, run_ccr};
+use ccr_cli::{Status, run_ccr};
 use ccr_io::{StdSink, StdSource};
 use std::env::FillError;
 use std::process::ExitCode;
@@ -42,7 +42,7 @@ fn words_of<R: Env + AllocGlobal>(rt: &R) -> Result<List<Name>, OutOfMemory> {
 
 fn main(rt: HostRuntime) -> ExitCode {
     let Ok(words) = words_of(&rt) else {
-        return ExitCode::from(Failure::Memory as u8);
+        return ExitCode::from(Status::Memory as u8);
     };
     let mut source = StdSource::new(rt.stdin());
     let mut sink = StdSink::new(rt.stdout());

@@ -90,7 +90,8 @@ step_is wiring actor state one reply is = step-in wiring actor state (turn state
 
 -- ---- running out of memory
 
-never-refused : (ask : Ask) → is_settling ask ≡ true → is_refusable (due_of ask) ≡ true → ⊥
+-- no ask that settles may be refused
+pub never-refused : (ask : Ask) → is_settling ask ≡ true → is_refusable (due_of ask) ≡ true → ⊥
 never-refused (asks.Post m) is may = cc is
 never-refused (asks.Claim t slot) is may = cc is
 never-refused (asks.Consume t) is may = cc may

@@ -14,6 +14,16 @@ pub or_assoc : (a b c : Bool) → a || (b || c) ≡ (a || b) || c
 or_assoc true b c = refl
 or_assoc false b c = refl
 
+-- one of two is one of three, whether the third stands before them or between
+pub or_before : (a b c : Bool) → b || c ≡ true → (a || b) || c ≡ true
+or_before true b c now = refl
+or_before false b c now = now
+
+pub or_between : (a b c : Bool) → b || c ≡ true → b || (a || c) ≡ true
+or_between a true c now = refl
+or_between true false c now = refl
+or_between false false c now = now
+
 -- not one, nor anything else
 pub none_or_false : (a : Bool) → a ≡ false → a || false ≡ false
 none_or_false a none = rw none refl

@@ -1,9 +1,11 @@
 -- Over plain lists: what passes a test.
-use Rattle.std.proofs.Common.{◌≡◌, ◌≤◌, Bool, List, [], ◌∷◌, length, filter, refl, arith, false, true, ◌++◌}
+use Rattle.std.proofs.Common.{◌≡◌, ◌+◌, ◌≤◌, Bool, List, [], ◌∷◌, length, filter, refl, arith, false, true, ◌++◌, not, ◌||◌, Option, Some, None}
+use Rattle.std.specs.Prelude.{if◌then◌else◌, ◌==◌}
 use Rattle.std.proofs.lemmas.Grind.{common_steps}
 use Rattle.std.proofs.lemmas.List.Sums.{length-filter, count_by-le-length}
-use Rattle.std.specs.List.{list_any}
+use Rattle.std.specs.List.{list_any, filter_map}
 use Rattle.ccr_base.proofs.Booleans.{neither}
+use Rattle.std.proofs.lemmas.Bool.Decides.{nat_tests}
 
 -- no more pass than there are
 pub length-kept : {X : Type 0} (p : X → Bool) (xs : List X) → length (filter p xs) ≤ length xs
@@ -38,3 +40,25 @@ none_pass p [] none = refl
 none_pass p (x ∷ xs) none =
     let parts = neither (p x) (list_any p xs) none in
     rw parts.0 (none_pass p xs parts.1)
+
+-- one more at the end, where it passes
+pub count_push : {X : Type 0} (p : X → Bool) (xs : List X) (x : X) → length (filter p (xs ++ x ∷ [])) ≡ length (filter p xs) + (if p x then 1 else 0)
+count_push p xs x = grind (arith, common_steps)
+
+-- some are kept, where one passes
+pub some_counted : {X : Type 0} (p : X → Bool) (xs : List X) → not (length (filter p xs) == 0) ≡ list_any p xs
+some_counted p [] = refl
+some_counted {X} p (x ∷ xs) = by (p x) (some_counted p xs)
+  where
+    by : (b : Bool) → not (length (filter p xs) == 0) ≡ list_any p xs → not (length (if b then x ∷ filter p xs else filter p xs) == 0) ≡ b || list_any p xs
+    by true rest = grind (arith, nat_tests)
+    by false rest = rest
+
+-- no more is made of some than there are
+pub length-filter_map : {X Y : Type 0} (h : X → Option Y) (xs : List X) → length (filter_map h xs) ≤ length xs
+length-filter_map h [] = omega arith
+length-filter_map {X} {Y} h (x ∷ xs) = by (h x) refl (length-filter_map h xs)
+  where
+    by : (o : Option Y) → h x ≡ o → length (filter_map h xs) ≤ length xs → length (filter_map h (x ∷ xs)) ≤ length (x ∷ xs)
+    by None e more = rw e (omega (arith, more))
+    by (Some y) e more = rw e (omega (arith, more))

@@ -3,8 +3,10 @@ pub mod TwoDigits
 pub mod Options
 pub mod Filters
 pub mod Lists
+pub mod Apart
 pub mod Texts
 pub mod Indices
 pub mod Chosen
+pub mod FirstFitting
 pub mod Loops
 pub mod SameNames

@@ -1,10 +1,11 @@
 -- Of a list: what its prefix is, what each of it passes, what holds of each of it, what is made of it, and how long it is.
-use Rattle.std.proofs.Common.{◌≡◌, ℕ, zero, suc, ◌+◌, ◌<◌, Bool, true, false, ◌||◌, List, [], ◌∷◌, ◌++◌, length, map, take, flat_map, Some, ap, ◌∙◌, refl, arith, append-nil, drop, sym, get_or, replicate}
+use Rattle.std.proofs.Common.{◌≡◌, ℕ, zero, suc, ◌+◌, ◌<◌, Bool, true, false, ◌||◌, List, [], ◌∷◌, ◌++◌, length, map, take, flat_map, Some, ap, ◌∙◌, refl, arith, append-nil, drop, sym, get_or, replicate, option_to_list, ◌≤◌, length-append}
+use Rattle.std.specs.Prelude.{if◌then◌else◌, find, is_some}
 use Rattle.std.specs.List.{All, AllByRecursion, list_all, list_any, slice_get, range_with_len}
 use Rattle.std.proofs.Math.Seq.{take-append_seam}
 use Rattle.std.proofs.lemmas.Bool.{and_from, and_parts as both, or_parts as neither}
 use Rattle.ccr_base.specs.Lists.{Each}
-use Rattle.ccr_base.proofs.Booleans.{no_both, refuted, or_left, or_right}
+use Rattle.ccr_base.proofs.Booleans.{no_both, refuted, or_left, or_right, either}
 use Rattle.std.proofs.lemmas.List.Folds.{list_any-append}
 use Rattle.std.proofs.lemmas.Grind.{flat_map-append}
 use Rattle.std.proofs.lemmas.List.Elements.{All-head, All-tail, All-nil, All-cons}
@@ -14,15 +15,15 @@ use Rattle.std.proofs.Math.Bool.{or-false}
 pub take_front : {X : Type 0} (xs ys : List X) (n : ℕ) → n ≡ length xs → take n (xs ++ ys) ≡ xs
 take_front xs ys n all = ap (λ m. take m (xs ++ ys)) all ∙ take-append_seam xs ys
 
--- one more of a list than the first so many
+-- one more of a list than the first so many, where there is one
+pub take_next : {X : Type 0} (xs : List X) (n : ℕ) → take (n + 1) xs ≡ take n xs ++ option_to_list (slice_get xs n)
+take_next [] zero = refl
+take_next [] (suc n) = let e : suc n + 1 ≡ suc (n + 1) = omega arith in rw e refl
+take_next (x ∷ xs) zero = refl
+take_next (x ∷ xs) (suc n) = let e : suc n + 1 ≡ suc (n + 1) = omega arith in rw e (ap (λ ys. x ∷ ys) (take_next xs n))
+
 pub take_more : {X : Type 0} (xs : List X) (i : ℕ) (x : X) → slice_get xs i ≡ Some x → take (i + 1) xs ≡ take i xs ++ x ∷ []
-take_more [] i x at = absurd (cc)
-take_more (y ∷ xs) zero x at = let one : y ≡ x = cc in rw one (none xs)
-  where
-    none : (ys : List _) → x ∷ take 0 ys ≡ x ∷ []
-    none [] = refl
-    none (z ∷ ys) = refl
-take_more (y ∷ xs) (suc i) x at = let e : suc i + 1 ≡ suc (i + 1) = omega arith in rw e (ap (λ zs. y ∷ zs) (take_more xs i x at))
+take_more xs i x at = take_next xs i ∙ ap (λ o. take i xs ++ option_to_list o) at
 
 -- one more at the end passes the test too
 pub all_more : {X : Type 0} (p : X → Bool) (xs : List X) (x : X) → list_all p xs ≡ true → p x ≡ true → list_all p (xs ++ x ∷ []) ≡ true
@@ -47,6 +48,11 @@ all_weaker p q more (x ∷ xs) all = let parts = both (p x) (list_all p xs) all 
 -- none of two lists passes where none of either does
 pub none_of_both : {X : Type 0} (p : X → Bool) (xs ys : List X) → list_any p xs ≡ false → list_any p ys ≡ false → list_any p (xs ++ ys) ≡ false
 none_of_both p xs ys first second = list_any-append p xs ys ∙ rw (first, second) refl
+
+-- of each at most one: in all no more than the list is long
+pub flat_few : {X Y : Type 0} (f : X → List Y) → ((x : X) → length (f x) ≤ 1) → (xs : List X) → length (flat_map f xs) ≤ length xs
+flat_few f few [] = omega arith
+flat_few f few (x ∷ xs) = let all = length-append (f x) (flat_map f xs) in let one = few x in let rest = flat_few f few xs in omega (arith, all, one, rest)
 
 -- two tests that agree find the same
 pub any_same : {X : Type 0} (p q : X → Bool) (xs : List X) → ((x : X) → p x ≡ q x) → list_any p xs ≡ list_any q xs
@@ -145,8 +151,22 @@ pub all_from_each : {X : Type 0} (P : X → Type 0) (xs : List X) → Each P xs 
 all_from_each P [] h = All-nil P
 all_from_each P (x ∷ xs) h = All-cons P x xs h.0 (all_from_each P xs h.1)
 
+-- a search finds one exactly where one passes
+pub is_some-find : {X : Type 0} (p : X → Bool) (xs : List X) → is_some (find p xs) ≡ list_any p xs
+is_some-find p [] = refl
+is_some-find p (x ∷ xs) = of_test (p x) (is_some-find p xs)
+  where
+    of_test : (b : Bool) → is_some (find p xs) ≡ list_any p xs → is_some (if b then Some x else find p xs) ≡ b || list_any p xs
+    of_test true rest = refl
+    of_test false rest = rest
+
 -- an item that passes, at its index
 pub any_at : {X : Type 0} (p : X → Bool) (xs : List X) (n : ℕ) (x : X) → slice_get xs n ≡ Some x → p x ≡ true → list_any p xs ≡ true
 any_at p [] n x at passes = absurd (cc)
 any_at p (y ∷ xs) zero x at passes = let one : y ≡ x = cc in or_left (p y) (list_any p xs) (ap p one ∙ passes)
 any_at p (y ∷ xs) (suc n) x at passes = or_right (p y) (list_any p xs) (any_at p xs n x at passes)
+
+-- one of a list passes, where all pass another test
+pub any_meets : {X : Type 0} (p q : X → Bool) (xs : List X) → list_any p xs ≡ true → list_all q xs ≡ true → (x : X) × (p x ≡ true) × (q x ≡ true)
+any_meets p q [] is all = absurd (cc)
+any_meets {X} p q (y ∷ xs) is all = let parts = both (q y) (list_all q xs) all in either (p y) (list_any p xs) is ((x : X) × (p x ≡ true) × (q x ≡ true)) (λ e. (y, e, parts.0)) (λ more. any_meets p q xs more parts.1)

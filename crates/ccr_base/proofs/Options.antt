@@ -1,13 +1,23 @@
 -- What is known of an option by what is made of it, and of a list by what stands at an index.
-use Rattle.std.proofs.Common.{◌≡◌, ◌⊎◌, inl, inr, ℕ, zero, suc, ◌<◌, ◌≤◌, Bool, true, false, not, cond, List, [], ◌∷◌, ◌++◌, length, Option, Some, None, refl, ap, arith, set, ◌≢◌, take, drop, ◌+◌}
-use Rattle.std.specs.Prelude.{is_some, option_map, option_and_then, IfSome, nat_lt}
+use Rattle.std.proofs.Common.{◌≡◌, ◌⊎◌, inl, inr, ℕ, zero, suc, ◌<◌, ◌≤◌, Bool, true, false, not, cond, List, [], ◌∷◌, ◌++◌, length, Option, Some, None, refl, ap, ◌∙◌, subst, arith, set, ◌≢◌, get_or, take, drop, ◌+◌}
+use Rattle.std.specs.Prelude.{◌==◌, if◌then◌else◌, is_some, option_map, option_and_then, IfSome, nat_lt}
+use Rattle.std.specs.Bool.{Decides}
 use Rattle.std.specs.List.{slice_get}
 use Rattle.std.specs.Option.{option_map_or, option_or}
 pub use Rattle.std.proofs.lemmas.Option.{slice_get_within as some-below}
+use Rattle.std.proofs.lemmas.Option.{get_or_from_slice_get}
 use Rattle.std.proofs.lemmas.Bool.Decides.{nat_tests}
+use Rattle.ccr_base.proofs.Booleans.{same_number, differ, no_both}
 
 pub no_some : {X : Type 0} (o : Option X) (x : X) → o ≡ None → o ≡ Some x → ⊥
 no_some o x none is = absurd (cc)
+
+-- what is there is one, and what holds of it by one name holds by the other
+pub some_is : {X : Type 0} {x y : X} → Some x ≡ Some y → x ≡ y
+some_is is = cc
+
+pub some_so : {X : Type 0} (P : X → Type 0) {x y : X} → Some x ≡ Some y → P x → P y
+some_so P is holds = subst P (some_is is) holds
 
 -- where it isn't so that there is something, there is nothing
 pub not_some : {X : Type 0} (o : Option X) → is_some o ≡ false → o ≡ None
@@ -117,6 +127,14 @@ get-set_other (y ∷ xs) zero x (suc j) other = refl
 get-set_other (y ∷ xs) (suc k) x zero other = refl
 get-set_other (y ∷ xs) (suc k) x (suc j) other = get-set_other xs k x j (λ e. other (ap suc e))
 
+-- both, as a test says it
+pub slice_get-set : {X : Type 0} (xs : List X) (k j : ℕ) (x : X) → k < length xs → slice_get (set xs k x) j ≡ (if j == k then Some x else slice_get xs j)
+slice_get-set xs k j x low = of_test (j == k) refl
+  where
+    of_test : (same : Bool) → (j == k) ≡ same → slice_get (set xs k x) j ≡ (if same then Some x else slice_get xs j)
+    of_test true is = ap (slice_get (set xs k x)) (same_number j k is) ∙ get-set_same xs k x low
+    of_test false is = get-set_other xs k x j (differ j k is)
+
 drop_none : {X : Type 0} (xs : List X) → xs ≡ drop 0 xs
 drop_none [] = refl
 drop_none (x ∷ xs) = refl
@@ -126,6 +144,12 @@ pub parted : {X : Type 0} (xs : List X) (i : ℕ) (x : X) → slice_get xs i ≡
 parted [] i x at = absurd (cc)
 parted (y ∷ xs) zero x at = let one : y ≡ x = cc in rw one (ap (λ zs. x ∷ zs) (drop_none xs))
 parted (y ∷ xs) (suc i) x at = let e : suc i + 1 ≡ suc (i + 1) = omega arith in rw e (ap (λ zs. y ∷ zs) (parted xs i x at))
+
+-- from an item on: the item, and what stands behind it
+pub drop_at : {X : Type 0} (xs : List X) (i : ℕ) (x : X) → slice_get xs i ≡ Some x → drop i xs ≡ x ∷ drop (i + 1) xs
+drop_at [] i x at = absurd (cc)
+drop_at (y ∷ xs) zero x at = let one : y ≡ x = cc in rw one (ap (λ zs. x ∷ zs) (drop_none xs))
+drop_at (y ∷ xs) (suc i) x at = let e : suc i + 1 ≡ suc (i + 1) = omega arith in rw e (drop_at xs i x at)
 
 -- the rest of a list behind its first
 pub drop-next : {X : Type 0} (n : ℕ) (xs : List X) (x : X) (rest : List X) → x ∷ rest ≡ drop n xs → (slice_get xs n ≡ Some x) × (rest ≡ drop (suc n) xs) × (n < length xs)
@@ -144,3 +168,14 @@ drop-end (suc n) (y ∷ xs) is = let more = drop-end n xs is in omega arith
 pub is_there : {X : Type 0} (o : Option X) → is_some o ≡ true → (x : X) × (o ≡ Some x)
 is_there None is = absurd (cc)
 is_there (Some x) is = (x, refl)
+
+-- the item that was looked at isn't the one sought, so one that is stands behind it
+pub passed_over : {X Y : Type 0} (f : X → Y) (xs : List X) (n k : ℕ) (here : X) (y : Y) (b : Bool) → here ≡ get_or xs n here → Decides b (f here ≡ y) → b ≡ false → n ≤ k → ((x : X) × (slice_get xs k ≡ Some x) × (f x ≡ y)) → n + 1 ≤ k
+passed_over f xs n k here y b read decides other low has = of_test (n == k) refl
+  where
+    of_test : (same : Bool) → (n == k) ≡ same → n + 1 ≤ k
+    of_test true is =
+        let same : n ≡ k = same_number n k is in
+        let this : here ≡ has.0 = read ∙ get_or_from_slice_get xs n has.0 here (ap (slice_get xs) same ∙ has.1) in
+        absurd (no_both (decides.1 (ap f this ∙ has.2)) other)
+    of_test false is = grind (arith, nat_tests, is, low)

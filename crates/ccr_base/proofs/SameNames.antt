@@ -15,6 +15,7 @@ use Rattle.ccr_base.specs.Names.{same_task, same_message, same_spot, same_lists,
 use Rattle.ccr_base.specs.Values.{same_value}
 use Rattle.ccr_base.proofs.Booleans.{both, same_number, or_left, or_right, eq-self}
 use Rattle.ccr_base.specs.declared.messages.Msg.{Msg}
+use Rattle.std.proofs.lemmas.Slice.Eq.{bytes_eq-Decides}
 
 pub same_task-is : (s t : TaskId) → same_task s t ≡ true → s ≡ t
 same_task-is s t is = grind (arith, nat_tests)
@@ -69,14 +70,7 @@ same_numbers-is xs ys is = same_lists-is (λ c d. c == d) same_number xs ys is
 
 -- two values that a test calls the same are
 pub same_values : (xs ys : List ℕ) → same_value xs ys ≡ true → xs ≡ ys
-same_values [] [] is = refl
-same_values [] (y ∷ ys) is = absurd (cc)
-same_values (x ∷ xs) [] is = absurd (cc)
-same_values (x ∷ xs) (y ∷ ys) is =
-    let parts = both (x == y) (same_value xs ys) is in
-    let one = same_number x y parts.0 in
-    let rest = same_values xs ys parts.1 in
-    cc
+same_values xs ys is = (bytes_eq-Decides xs ys).0 is
 
 -- the names of two lists of messages together
 pub names_of-append : (messages others : List Msg) → names_of (messages ++ others) ≡ names_of messages ++ names_of others

@@ -1,5 +1,5 @@
 -- Which messages a slot takes: the oldest that satisfy its predicate.
-use Rattle.std.specs.Prelude.{ℕ, ◌+◌, Bool, true, ◌==◌, nat_lt, nat_le, List, [], ◌∷◌, length, take, filter, flat_map, Option, Some, None, option_to_list, if◌then◌else◌}
+use Rattle.std.specs.Prelude.{ℕ, ◌+◌, ◌-◌, Bool, true, ◌==◌, ◌&&◌, nat_lt, nat_le, List, [], ◌∷◌, length, take, filter, flat_map, Option, Some, None, option_to_list, if◌then◌else◌}
 use Rattle.std.specs.List.{slice_get}
 use Rattle.ccr_base.specs.declared.messages.Msg.{Msg}
 use Rattle.ccr_base.specs.declared.patterns.Pred.{Pred}
@@ -17,6 +17,11 @@ holds (Ge n) value = nat_le n (first_number value)
 -- the messages that satisfy the predicate, oldest first
 abbrev pub fitting : Pred → List Msg → List Msg
 fitting pred messages = filter (λ (message : Msg). holds pred message.value) messages
+
+-- the messages without the first of those, so many
+abbrev pub without_first : ℕ → Pred → List Msg → List Msg
+without_first count pred [] = []
+without_first count pred (message ∷ messages) = if holds pred message.value && nat_lt 0 count then without_first (count - 1) pred messages else message ∷ without_first count pred messages
 
 -- whether enough satisfy it
 abbrev pub is_choosable : Slot → List Msg → Bool

@@ -1,7 +1,7 @@
 //! A case: what the program is given, and what it answers.
 
 use ccr_base::{List, Name, OpenGate, OutOfMemory};
-use ccr_cli::{Failure, Unfinished, run_ccr, run_surely};
+use ccr_cli::{Status, run_ccr, run_surely};
 use ccr_gen::generate;
 use ccr_io::{MemorySink, MemorySource, SureSink, SureSource};
 use ccr_wiretext::write_wiring;
@@ -296,7 +296,7 @@ fn read_ends_it<R: AllocGlobal + Threads + Wait + Sync>(
     read: u64,
 ) -> Result<bool, OutOfMemory> {
     let given = run_failing(rt, case, read, NEVER)?;
-    Ok(given.status == Failure::ReadFault as u8 && given.written.as_slice().is_empty())
+    Ok(given.status == Status::ReadFault as u8 && given.written.as_slice().is_empty())
 }
 
 /// Whether each of so many reads, made to fail, ends the case with nothing written, and one behind them isn't made.
@@ -315,7 +315,7 @@ fn each_read_ends_it<R: AllocGlobal + Threads + Wait + Sync>(
     Ok(given.status == case.status && given.written.as_slice() == whole)
 }
 
-/// Whether this write, made to fail, ends the case where nothing is written if it is the first, and else a beginning of the whole.
+/// Whether this write, made to fail, ends the case where nothing is written if it is the first, and else a prefix of the whole.
 fn write_ends_it<R: AllocGlobal + Threads + Wait + Sync>(
     rt: &R,
     case: &Case<'_>,
@@ -325,7 +325,7 @@ fn write_ends_it<R: AllocGlobal + Threads + Wait + Sync>(
     let given = run_failing(rt, case, NEVER, write)?;
     let written = given.written.as_slice();
     Ok(
-        given.status == Unfinished::WriteFault as u8
+        given.status == Status::WriteFault as u8
             && whole.starts_with(written)
             && (write != 0 || written.is_empty()),
     )

@@ -1,8 +1,9 @@
 -- How a test over numbered posters, Interleaves, tasks and queues goes on behind one of them.
-use Rattle.std.proofs.Common.{◌≡◌, ℕ, zero, suc, ◌+◌, ◌<◌, Bool, false, not, ◌&&◌, ◌||◌, List, [], ◌∷◌, length, drop, Some, refl, arith}
+use Rattle.std.proofs.Common.{◌≡◌, ℕ, zero, suc, ◌+◌, ◌<◌, Bool, false, not, ◌&&◌, ◌||◌, List, [], ◌∷◌, length, drop, Some, refl, ap, arith}
 use Rattle.std.specs.Prelude.{◌==◌, nat_lt}
 use Rattle.std.specs.List.{slice_get, list_any}
 use Rattle.std.specs.Option.{option_map_or}
+use Rattle.ccr_base.proofs.Options.{drop_at}
 use Rattle.ccr_base.specs.declared.names.TaskId.{TaskId}
 use Rattle.ccr_wiring.specs.declared.parts.PosterPart.{PosterPart}
 use Rattle.ccr_wiring.specs.declared.parts.ArbiterPart.{ArbiterPart}
@@ -19,19 +20,13 @@ use Rattle.ccr_checker.specs.LeftInTables.{has_line_left_in, can_admit_in, has_a
 
 -- the poster at an index first, and then those after it
 pub are_whole_from-drop : (h : List Event) (ps : List PosterPart) (i n : ℕ) (p : PosterPart) → slice_get ps i ≡ Some p → are_whole_from h n (drop i ps) ≡ (posts_of_poster h n == length p.posts) && are_whole_from h (n + 1) (drop (i + 1) ps)
-are_whole_from-drop h [] i n p at = absurd (cc)
-are_whole_from-drop h (q ∷ ps) zero n p at = let same : q ≡ p = cc in rw same refl
-are_whole_from-drop h (q ∷ ps) (suc i) n p at = let e : suc i + 1 ≡ suc (i + 1) = omega arith in rw e (are_whole_from-drop h ps i n p at)
+are_whole_from-drop h ps i n p at = ap (are_whole_from h n) (drop_at ps i p at)
 
 pub are_whole_in-drop : (b : Books) (ps : List PosterPart) (i n : ℕ) (p : PosterPart) → slice_get ps i ≡ Some p → are_whole_in b n (drop i ps) ≡ (number b.script_posts n == length p.posts) && are_whole_in b (n + 1) (drop (i + 1) ps)
-are_whole_in-drop b [] i n p at = absurd (cc)
-are_whole_in-drop b (q ∷ ps) zero n p at = let same : q ≡ p = cc in rw same refl
-are_whole_in-drop b (q ∷ ps) (suc i) n p at = let e : suc i + 1 ≡ suc (i + 1) = omega arith in rw e (are_whole_in-drop b ps i n p at)
+are_whole_in-drop b ps i n p at = ap (are_whole_in b n) (drop_at ps i p at)
 
 pub has_line_left-drop : (b : Books) (ps : List PosterPart) (i n : ℕ) (p : PosterPart) → slice_get ps i ≡ Some p → has_line_left_in b n (drop i ps) ≡ nat_lt (number b.script_posts n) (length p.posts) || has_line_left_in b (n + 1) (drop (i + 1) ps)
-has_line_left-drop b [] i n p at = absurd (cc)
-has_line_left-drop b (q ∷ ps) zero n p at = let same : q ≡ p = cc in rw same refl
-has_line_left-drop b (q ∷ ps) (suc i) n p at = let e : suc i + 1 ≡ suc (i + 1) = omega arith in rw e (has_line_left-drop b ps i n p at)
+has_line_left-drop b ps i n p at = ap (has_line_left_in b n) (drop_at ps i p at)
 
 -- the Interleave at an index first, and then those after it
 pub has_admission-drop : (b : Books) (xs : List ArbiterPart) (i n : ℕ) → i < length xs → has_admission_in b n (drop i xs) ≡ can_admit_in b n || has_admission_in b (n + 1) (drop (i + 1) xs)

@@ -1,10 +1,11 @@
 -- Something is left exactly where an event comes first.
 use Rattle.std.proofs.Common.{◌≡◌, ℕ, ◌+◌, Bool, true, false, not, ◌&&◌, ◌||◌, List, [], ◌∷◌, Some, None, refl, sym, arith}
-use Rattle.std.specs.Prelude.{if◌then◌else◌, find, is_some}
+use Rattle.std.specs.Prelude.{if◌then◌else◌, is_some}
 use Rattle.std.specs.List.{slice_get, list_any}
 use Rattle.std.proofs.lemmas.Bool.Decides.{nat_tests}
 use Rattle.ccr_base.specs.declared.names.TaskId.{TaskId}
 use Rattle.ccr_base.specs.declared.names.Spot.{Spot}
+use Rattle.ccr_base.proofs.Lists.{is_some-find}
 use Rattle.ccr_base.proofs.Options.{is_some-get}
 use Rattle.ccr_wiring.specs.declared.parts.Parts.{Parts}
 use Rattle.ccr_wiring.specs.declared.parts.PosterPart.{PosterPart}
@@ -23,14 +24,6 @@ use Rattle.ccr_checker.specs.Quiet.{AllowsSome, MeansQuiet}
 use Rattle.ccr_model.specs.Enough.{can_fire}
 use Rattle.ccr_model.proofs.CanFire.{is_some-or, is_some-map, some_fire_at}
 use Rattle.ccr_checker.specs.Left.{has_line_left, can_admit, has_admission, has_queued, is_still}
-
-is_some-find : {X : Type 0} (p : X → Bool) (xs : List X) → is_some (find p xs) ≡ list_any p xs
-is_some-find p [] = refl
-is_some-find p (x ∷ xs) = of_test (p x) (is_some-find p xs)
-  where
-    of_test : (b : Bool) → is_some (find p xs) ≡ list_any p xs → is_some (if b then Some x else find p xs) ≡ b || list_any p xs
-    of_test true rest = refl
-    of_test false rest = rest
 
 -- a line of a script
 some_post : (h : List Event) (n : ℕ) (ps : List PosterPart) → is_some (post_from h n ps) ≡ has_line_left h n ps

@@ -6,7 +6,7 @@ use Rattle.std.proofs.lemmas.Bool.{and_from, and_parts}
 use Rattle.ccr_base.specs.Lists.{has_number, are_apart}
 use Rattle.ccr_base.proofs.Lists.{all_both}
 use Rattle.ccr_cause.specs.Causes.{union, with_cause}
-use Rattle.ccr_wiring.proofs.Apart.{apart_snoc}
+use Rattle.ccr_base.proofs.Apart.{apart_snoc}
 
 pub with_apart : (causes : List ℕ) (c : ℕ) → are_apart causes ≡ true → are_apart (with_cause causes c) ≡ true
 with_apart causes c apart = by (has_number causes c) refl
@@ -15,7 +15,8 @@ with_apart causes c apart = by (has_number causes c) refl
     by true is = apart
     by false is = apart_snoc causes c apart is
 
-with_all : (p : ℕ → Bool) (causes : List ℕ) (c : ℕ) → list_all p causes ≡ true → p c ≡ true → list_all p (with_cause causes c) ≡ true
+-- what passes in the list and of the cause passes there
+pub with_all : (p : ℕ → Bool) (causes : List ℕ) (c : ℕ) → list_all p causes ≡ true → p c ≡ true → list_all p (with_cause causes c) ≡ true
 with_all p causes c all one = by (has_number causes c)
   where
     by : (b : Bool) → list_all p (if b then causes else causes ++ c ∷ []) ≡ true

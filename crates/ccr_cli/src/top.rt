@@ -11,7 +11,7 @@ ghost use Rattle.ccr_commands.specs.Exits.{exit_done, exit_usage, exit_refused, 
 ghost use Rattle.ccr_cli.specs.Ends.{IsAnswered, IsBegun, IsOwnEnd};
 
 use ccr_base::{Gate, Name};
-use ccr_commands::{Unfinished, answer_words};
+use ccr_commands::{Status, answer_words};
 use ccr_io::{Failed, Sink, Source, write_all};
 use std::sync::Wait;
 use std::thread::Threads;
@@ -66,8 +66,8 @@ pub fn run_ccr<R: AllocGlobal + Threads + Wait + Sync, S: Source, K: Sink, G: Ga
     match answer_words(rt, gate, words, source) {
         Ok(due) => match write_all(sink, due.text.as_slice()) {
             Ok(()) => due.status as u8,
-            Err(Failed) => Unfinished::WriteFault as u8,
+            Err(Failed) => Status::WriteFault as u8,
         },
-        Err(failure) => failure as u8,
+        Err(status) => status as u8,
     }
 }

@@ -1,5 +1,6 @@
 pub mod Bounds
 pub mod Inputs
+mod DoneAlone
 pub mod FoundOnce
 pub mod Statuses
 pub mod SinglePosts

@@ -1,18 +1,14 @@
 -- In a wiring of version 1 each value of a legal history is one number at most.
-use Rattle.std.proofs.Common.{◌⊎◌, inl, inr, ◌≡◌, ℕ, zero, suc, Bool, true, false, ◌&&◌, List, [], ◌∷◌, ◌++◌, map, Option, Some, None, refl, sym, subst}
-use Rattle.std.specs.Prelude.{◌==◌, if◌then◌else◌, slice_get}
+use Rattle.std.proofs.Common.{◌⊎◌, inl, inr, ◌≡◌, ℕ, zero, suc, Bool, true, false, List, [], ◌∷◌, map, Option, Some, None, refl, sym, subst}
+use Rattle.std.specs.Prelude.{if◌then◌else◌, slice_get}
 use Rattle.std.specs.List.{list_any}
-use Rattle.std.specs.Option.{option_and_then, option_map_or}
+use Rattle.std.specs.Option.{option_map_or}
 use Rattle.ccr_base.specs.declared.handlers.Action.{Action}
 use Rattle.ccr_base.specs.declared.messages.Msg.{Msg}
 use Rattle.ccr_base.specs.declared.messages.Sent.{Sent}
-use Rattle.ccr_base.specs.declared.names.MsgId.{MsgId}
-use Rattle.ccr_base.specs.declared.names.MsgId.TheVariants as names
 use Rattle.ccr_base.specs.declared.names.Spot.{Spot}
 use Rattle.ccr_base.specs.declared.names.Spot.TheVariants.{Site}
 use Rattle.ccr_base.specs.declared.names.TaskId.{TaskId}
-use Rattle.ccr_base.specs.Names.{has_task, same_lists}
-use Rattle.ccr_base.specs.Values.{same_value}
 use Rattle.ccr_handler.specs.declared.segments.PlayEnd.TheVariants as plays
 use Rattle.ccr_handler.specs.Playing.{actions_from, after_await, is_await}
 use Rattle.ccr_wiring.specs.declared.parts.HandlerPart.{HandlerPart}
@@ -21,23 +17,18 @@ use Rattle.ccr_wiring.specs.declared.parts.PosterPart.{PosterPart}
 use Rattle.ccr_wiring.specs.Versions.{action_is_newer, handler_is_newer, is_long, is_newer, poster_is_newer}
 use Rattle.ccr_wiring.specs.Wirings.{Placement, actions_of, branch_of, exception_port, placement, segment_of, actions_at}
 use Rattle.ccr_model.specs.declared.history.Event.{Event}
-use Rattle.ccr_model.specs.declared.history.Event.TheVariants as events
 use Rattle.ccr_model.specs.Firings.{spot_of}
-use Rattle.ccr_model.specs.Legal.{IsAllowed, IsLegal}
-use Rattle.ccr_model.specs.Posts.{post_of, posts, posts_of_poster, posts_of_task}
-use Rattle.ccr_model.specs.Rules.{is_play_post, is_post, is_script_line, refusal_of_post}
+use Rattle.ccr_model.specs.Legal.{IsLegal}
+use Rattle.ccr_model.specs.Posts.{posts}
 use Rattle.ccr_model.specs.Sites.{resumed}
 use Rattle.ccr_model.specs.TaskData.{Load, load_after, load_at, messages_of, no_load, no_play, play_at, play_of, with_messages}
-use Rattle.ccr_model.specs.Tasks.{running}
-use Rattle.ccr_base.proofs.Booleans.{both, neither}
-use Rattle.ccr_model.proofs.Members.{Among, Among-at, Among-either, Among-mapped}
-use Rattle.ccr_base.proofs.Options.{some_of, some_then}
+use Rattle.ccr_base.proofs.Booleans.{neither}
+use Rattle.ccr_model.proofs.Members.{Among, Among-either, Among-mapped}
 use Rattle.ccr_base.proofs.Lists.{none_at}
-use Rattle.ccr_model.proofs.PostNames.{along, refused_not}
-use Rattle.ccr_model.proofs.OneMoreEvent.{posts-push}
+use Rattle.ccr_model.proofs.PostedMessages.{each_posted, post_allowed}
 use Rattle.ccr_model.proofs.TakenWerePosted.{took_among}
 use Rattle.ccr_trace.specs.Values.{IsSingle}
-use Rattle.ccr_trace.proofs.SingleValues.{AreSingle, not_long, same_single}
+use Rattle.ccr_trace.proofs.SingleValues.{AreSingle, not_long}
 use Rattle.ccr_trace.proofs.SinglePlays.{IsPlaySingle, no_play_single, play_single}
 
 -- nothing of version 2 stands in the handlers and scripts
@@ -106,42 +97,13 @@ module _ (w : Parts) (none : is_newer w ≡ false) where
 
   -- ---- posts
 
-  sent_as : (m : Msg) (sent : Sent) → is_post m sent ≡ true → IsSingle sent.value → IsSingle m.value
-  sent_as m sent is single =
-      let two = both ((m.port == sent.port) && same_value m.value sent.value) (same_lists (λ c d. c == d) m.causes sent.causes) is in
-      same_single m.value sent.value (both (m.port == sent.port) (same_value m.value sent.value) two.0).1 single
-
-  script_single : (poster index : ℕ) (part : PosterPart) (sent : Sent) → slice_get w.posters poster ≡ Some part → slice_get part.posts index ≡ Some sent → IsSingle sent.value
-  script_single poster index part sent is line =
+  script_single : (poster : ℕ) (part : PosterPart) (index : ℕ) (sent : Sent) → slice_get w.posters poster ≡ Some part → slice_get part.posts index ≡ Some sent → IsSingle sent.value
+  script_single poster part index sent is line =
       let old : poster_is_newer part ≡ false = none_at poster_is_newer w.posters poster part (neither (list_any handler_is_newer w.handlers) (list_any poster_is_newer w.posters) none).1 is in
       not_long sent.value (none_at (λ (post : Sent). is_long post.value) part.posts index sent old line)
 
-  post_allowed : (h : List Event) (m : Msg) → ArePosted h → (name : MsgId) → refusal_of_post w h m name ≡ None → IsSingle m.value
-  post_allowed h m posted (names.Script a k) allowed =
-      let line = (refused_not (is_script_line w h a k m) _ None allowed).0 in
-      let found = some_of (is_post m) (option_and_then (λ (p : PosterPart). slice_get p.posts k) (slice_get w.posters a)) (both (k == posts_of_poster h a) _ line).1 in
-      let part = some_then (λ (p : PosterPart). slice_get p.posts k) (slice_get w.posters a) found.0 found.1 in
-      sent_as m found.0 found.2 (script_single a k part.0 found.0 part.1 part.2)
-  post_allowed h m posted (names.Task t k) allowed =
-      let line = (refused_not (is_play_post w h t k m) _ _ allowed).0 in
-      let found = some_of (is_post m) (slice_get (play_of w h t).posts k) (both (has_task (running h) t && (k == posts_of_task h t)) _ line).1 in
-      sent_as m found.0 found.2 ((play_of-single h posted t).posts found.0 (Among-at (play_of w h t).posts k found.0 found.1))
-
-  posted_kept : (h : List Event) (e : Event) → ArePosted h → IsAllowed w h e → ArePosted (h ++ e ∷ [])
-  posted_kept h e posted allowed m is = of_either e allowed (Among-either m (posts h) (post_of e) (subst (Among m) (posts-push h e) is))
-    where
-      of_either : (e : Event) → IsAllowed w h e → Among m (posts h) ⊎ Among m (post_of e) → IsSingle m.value
-      of_either e allowed (inl old) = posted m old
-      of_either (events.Post x) allowed (inr (inl same)) = subst (λ (y : Msg). IsSingle y.value) (sym same) (post_allowed h x posted x.id allowed)
-      of_either (events.Post x) allowed (inr (inr there)) = absurd there
-      of_either (events.Fire t s ms cs) allowed (inr there) = absurd there
-      of_either (events.Admit t) allowed (inr there) = absurd there
-      of_either (events.Put t d) allowed (inr there) = absurd there
-      of_either (events.Start t a) allowed (inr there) = absurd there
-      of_either (events.End t how) allowed (inr there) = absurd there
-
   pub posted_single : (h : List Event) → IsLegal w h → ArePosted h
-  posted_single h legal = along w ArePosted posted_kept (λ m is. absurd is) h legal
+  posted_single h legal = each_posted w (λ (m : Msg). IsSingle m.value) (λ g m lawful known allowed. (let it = post_allowed w g m (λ (sent : Sent). IsSingle sent.value) script_single (λ t. (play_of-single g known t).posts) m.id allowed in subst IsSingle (sym it.1.value) it.2)) h legal
 
   pub failed_single : (h : List Event) → IsLegal w h → (t : TaskId) (value : List ℕ) → (play_of w h t).end ≡ plays.Failed value → IsSingle value
   failed_single h legal t value is = (play_of-single h (posted_single h legal) t).end value is

@@ -7,13 +7,14 @@ use Rattle.ccr_json.specs.Wiring.{wiring_json}
 use Rattle.ccr_wiretext.specs.declared.refused.ReadRefused.{ReadRefused}
 use Rattle.ccr_wiretext.specs.declared.refused.ReadRefused.TheVariants.{At}
 use Rattle.ccr_commands.specs.declared.status.Status.{Status}
-use Rattle.ccr_commands.specs.declared.status.Status.TheVariants.{Done, Usage, Refused, Shed, Illegal, TooLong}
+use Rattle.ccr_commands.specs.declared.status.Status.TheVariants.{Done, Usage, Refused, ReadFault, WriteFault, Memory, Shed, Illegal, TooLong}
 use Rattle.ccr_words.specs.declared.requests.Command.{Command}
 use Rattle.ccr_words.specs.declared.requests.Command.TheVariants.{Check, Run, Verify, Record, Replay, Steps, Steady, Service, Expand}
 use Rattle.ccr_words.specs.declared.requests.Request.{Request}
 use Rattle.ccr_words.specs.declared.requests.Request.TheVariants.{Read, Load}
 use Rattle.ccr_words.specs.AskedFor.{asked_for}
 use Rattle.ccr_commands.specs.declared.findings.Finding.{Finding}
+use Rattle.ccr_commands.specs.Statuses.{IsDoneAnd}
 use Rattle.ccr_commands.specs.Inputs.{limit_of, history_index, output_part, reading_input, turns_of}
 use Rattle.ccr_commands.specs.Runs.{RunGives}
 use Rattle.ccr_commands.specs.Loads.{LoadGives}
@@ -49,8 +50,7 @@ check_text json wiring = wiring_of json wiring ++ codes "done 0" ++ 10 ∷ []
 
 -- the text that is due for the word `check`
 abbrev pub CheckGives : Bool → Parts → Status → List ℕ → Type 0
-CheckGives json wiring Done text = text ≡ check_text json wiring
-CheckGives json wiring _ text = ⊥
+CheckGives json wiring status text = IsDoneAnd status (text ≡ check_text json wiring)
 
 -- the text that is due for a wiring and the bytes of which it was read
 abbrev pub Answers : Command → Bool → Parts → List ℕ → Status → List ℕ → Type 0
@@ -82,6 +82,9 @@ AnswersRest command json (Some bytes) status text = (length bytes ≤ limit_of c
 -- the same for one that may have too much to come
 abbrev pub AnswersInput : Command → Bool → Option (List ℕ) → Status → List ℕ → Type 0
 AnswersInput command json rest Usage text = ⊥
+AnswersInput command json rest ReadFault text = ⊥
+AnswersInput command json rest WriteFault text = ⊥
+AnswersInput command json rest Memory text = ⊥
 AnswersInput command json rest TooLong text = IsLongerThan (limit_of command) rest × (text ≡ too_long_text)
 AnswersInput command json rest status text = AnswersRest command json rest status text
 

@@ -1,4 +1,4 @@
--- The exit statuses of the program as numbers: `Status`, `Failure` and `Unfinished` of src/status.rt have them too.
+-- The exit statuses of the program as numbers: `Status` of src/status.rt has them too.
 use Rattle.std.specs.Prelude.{ℕ, List, [], ◌∷◌}
 
 -- the text was written whole, and a run had no shed end

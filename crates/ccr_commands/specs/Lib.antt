@@ -1,3 +1,4 @@
+pub mod Statuses
 pub mod Inputs
 pub mod Accounts
 pub mod Runs

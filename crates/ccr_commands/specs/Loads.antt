@@ -17,7 +17,7 @@ use Rattle.ccr_steady.specs.Agreement.{Agrees}
 use Rattle.ccr_commands.specs.Accounts.{AccountsForAll}
 use Rattle.ccr_opening.specs.Begins.{Begins}
 use Rattle.ccr_commands.specs.declared.status.Status.{Status}
-use Rattle.ccr_commands.specs.declared.status.Status.TheVariants.{Done}
+use Rattle.ccr_commands.specs.Statuses.{IsDoneAnd}
 
 -- the totals as a line of words, or as one line of JSON
 abbrev pub totals_of : Bool → Totals → List ℕ
@@ -58,5 +58,4 @@ IsLoad size workers json text = IsLoadOf (generated size) size workers json text
 
 -- the text that is due for a load
 abbrev pub LoadGives : ℕ → ℕ → Bool → Status → List ℕ → Type 0
-LoadGives size workers json Done text = IsLoad size workers json text
-LoadGives size workers json _ text = ⊥
+LoadGives size workers json status text = IsDoneAnd status (IsLoad size workers json text)

@@ -1,5 +1,5 @@
 -- What is written of records: a run as whose turn it was, the run that those turns give again, and its steps.
-use Rattle.std.specs.Prelude.{◌≡◌, ◌<◌, ◌≤◌, ◌+◌, ℕ, zero, suc, All, Bool, false, List, [], length, Some, Ok}
+use Rattle.std.specs.Prelude.{◌≡◌, ◌<◌, ◌≤◌, ℕ, zero, suc, All, Bool, false, List, [], length, Some, Ok}
 use Rattle.ccr_base.specs.Bounds.{most_wiring_bytes, most_workers}
 use Rattle.ccr_wiring.specs.Actors.{actor_count}
 use Rattle.ccr_wiring.specs.declared.parts.Parts.{Parts}
@@ -15,6 +15,7 @@ use Rattle.ccr_opening.specs.Begins.{IsRunToRest}
 use Rattle.ccr_commands.specs.Runs.{IsRun}
 use Rattle.ccr_commands.specs.declared.status.Status.{Status}
 use Rattle.ccr_commands.specs.declared.status.Status.TheVariants.{Done}
+use Rattle.ccr_commands.specs.Statuses.{IsDoneAnd}
 
 -- turns that give a run in which each poster and each worker makes its own steps until it has none left, and each turn is a step;
 -- that run is what some closed locks tell, whose passes all came to rest. Without workers there are none
@@ -27,18 +28,15 @@ AreTurnsToRest wiring (suc n) turns =
 
 -- the text that is due for a record: the wiring's bytes as they were read, and such turns
 abbrev pub RecordGives : Parts → ℕ → List ℕ → Status → List ℕ → Type 0
-RecordGives wiring workers bytes Done text = (turns : List ℕ) × AreTurnsToRest wiring workers turns × (text ≡ record_text bytes workers turns)
-RecordGives wiring workers bytes _ text = ⊥
+RecordGives wiring workers bytes status text = IsDoneAnd status ((turns : List ℕ) × AreTurnsToRest wiring workers turns × (text ≡ record_text bytes workers turns))
 
 -- the text that is due for a record that is played again: that of a scheduled run of its turns, which ends as done also where a task was shed
 abbrev pub ReplayGives : Record → Status → List ℕ → Type 0
-ReplayGives said Done text = (shed : Bool) × IsRun false said.wiring said.workers (Some said.turns) shed text
-ReplayGives said _ text = ⊥
+ReplayGives said status text = IsDoneAnd status ((shed : Bool) × IsRun false said.wiring said.workers (Some said.turns) shed text)
 
 -- the text that is due for the steps of a record: those of the run of its turns
 abbrev pub StepsGives : Record → Status → List ℕ → Type 0
-StepsGives said Done text = text ≡ steps_text said.wiring (scheduled said.wiring said.turns)
-StepsGives said _ text = ⊥
+StepsGives said status text = IsDoneAnd status (text ≡ steps_text said.wiring (scheduled said.wiring said.turns))
 
 -- some turns of the posters and so many workers give a scheduled run that has this text
 abbrev pub IsToldAsTurns : Bool → Parts → ℕ → Bool → List ℕ → Type 0

@@ -15,7 +15,7 @@ use Rattle.ccr_service.specs.Services.{IsService}
 use Rattle.ccr_service.specs.Telling.{answers_of}
 use Rattle.ccr_commands.specs.Runs.{IsRunHistory}
 use Rattle.ccr_commands.specs.declared.status.Status.{Status}
-use Rattle.ccr_commands.specs.declared.status.Status.TheVariants.{Done}
+use Rattle.ccr_commands.specs.Statuses.{IsDoneAnd}
 
 -- the response of a request with its value, or what became of the request
 abbrev pub answer_words : Answer → List (List ℕ)
@@ -47,10 +47,8 @@ pub record IsServed (service : ServiceParts) (workers : ℕ) (text : List ℕ) :
 
 -- the text that is due for the word `service`
 abbrev pub ServiceGives : ServiceParts → ℕ → Status → List ℕ → Type 0
-ServiceGives service workers Done text = IsServed service workers text
-ServiceGives service workers _ text = ⊥
+ServiceGives service workers status text = IsDoneAnd status (IsServed service workers text)
 
 -- the text that is due for the word `expand`
 abbrev pub ExpandGives : ServiceParts → Status → List ℕ → Type 0
-ExpandGives service Done text = text ≡ spelling (expansion service) ++ codes "done 0" ++ 10 ∷ []
-ExpandGives service _ text = ⊥
+ExpandGives service status text = IsDoneAnd status (text ≡ spelling (expansion service) ++ codes "done 0" ++ 10 ∷ [])

@@ -7,7 +7,7 @@ use Rattle.ccr_steady.specs.declared.agreement.Agreed.{Agreed}
 use Rattle.ccr_steady.specs.declared.agreement.Agreed.TheVariants.{Unsteady, Spent, Counts}
 use Rattle.ccr_steady.specs.Agreement.{Agrees}
 use Rattle.ccr_commands.specs.declared.status.Status.{Status}
-use Rattle.ccr_commands.specs.declared.status.Status.TheVariants.{Done}
+use Rattle.ccr_commands.specs.Statuses.{IsDoneAnd}
 
 -- the rule by which the wiring is unsteady; or that each run spends the budget; or the totals of each run
 abbrev pub agreed_text : Agreed → List ℕ
@@ -17,5 +17,4 @@ agreed_text (Counts fired totals) = codes "steady" ++ 10 ∷ line_text (total_wo
 
 -- the text that is due for the word `steady`
 abbrev pub SteadyGives : Parts → Status → List ℕ → Type 0
-SteadyGives wiring Done text = (found : Agreed) × Agrees wiring found × (text ≡ agreed_text found ++ codes "done 0" ++ 10 ∷ [])
-SteadyGives wiring _ text = ⊥
+SteadyGives wiring status text = IsDoneAnd status ((found : Agreed) × Agrees wiring found × (text ≡ agreed_text found ++ codes "done 0" ++ 10 ∷ []))

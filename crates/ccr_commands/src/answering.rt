@@ -1,12 +1,13 @@
 //! The text that is due for words and an input, whole before a byte of it is written.
 
-ghost use Rattle.std.specs.Prelude.{◌≡◌, ◌≤◌, Bool, ℕ, None, Some, true, false, IfOk, IfSome, IsErrOf, length};
+ghost use Rattle.std.specs.Prelude.{◌≡◌, ◌≤◌, Bool, ℕ, None, Some, true, false, IfOk, IfSome, IfErr, IsErrOf, length};
 ghost use Rattle.ccr_base.specs.Bounds.{most_bytes, most_wiring_bytes, most_workers};
 ghost use Rattle.ccr_io.specs.Faults.{Rose};
 ghost use Rattle.ccr_words.specs.AskedFor.{asked_for};
 ghost use Rattle.ccr_words.specs.Table.{HasFewWorkers, IsWithin};
 ghost use Rattle.ccr_words.specs.declared.requests.Command.TheVariants.{Check, Run, Verify};
 ghost use Rattle.ccr_words.specs.declared.requests.Request.TheVariants.{Read, Load};
+ghost use Rattle.ccr_commands.specs.Statuses.{is_of_text, is_silent};
 ghost use Rattle.ccr_commands.specs.Inputs.{limit_of};
 ghost use Rattle.ccr_commands.specs.Answers.{AnswersText, AnswersInput, AnswersRequest, IsDue, IsExhausted, IsExhaustedFor, IsAccepted, IsDeclined, IsExcessive, IsVerified, OfCommand, may_end, reads};
 
@@ -17,7 +18,7 @@ use crate::replaying::{answer_replay, answer_steps};
 use crate::run::run;
 use crate::schedule::answer_schedule;
 use crate::serving::{answer_expand, answer_service};
-use crate::status::{Failure, Status};
+use crate::status::Status;
 use crate::steady::answer_steady;
 use crate::verify::verify;
 use ccr_base::{Gate, Name, OutOfMemory};
@@ -110,17 +111,18 @@ fn answer_input<R: AllocGlobal + Threads + Wait + Sync, S: Source, G: Gate + Syn
     command: Command,
     source: &mut S,
     json: bool,
-) -> Result<Output, Failure>
+) -> Result<Output, Status>
     requires { HasFewWorkers command }
     ensures due { IfOk result (λ due. AnswersInput command json (S.rest source.old) due.status due.text) }
     ensures exhausted { IfOk result (λ due. IsExhausted due.status (S.rest source.old) (S.rest source.new)) }
-    ensures fault { IsErrOf result Failure.ReadFault → Rose (S.faults source.old) (S.faults source.new) }
+    ensures silent { IfErr result (λ why. is_silent why ≡ true) }
+    ensures fault { IsErrOf result Status.ReadFault → Rose (S.faults source.old) (S.faults source.new) }
 {
     match read_all(rt.alloc(), source, limit_of(command)) {
         Ok(bytes) => Ok(answer_text(rt, gate, command, bytes.as_slice(), json)?),
         Err(ReadEnd::TooLong) => Ok(too_long(rt.alloc())?),
-        Err(ReadEnd::Fault) => Err(Failure::ReadFault),
-        Err(ReadEnd::Memory) => Err(Failure::Memory),
+        Err(ReadEnd::Fault) => Err(Status::ReadFault),
+        Err(ReadEnd::Memory) => Err(Status::Memory),
     }
 }
 
@@ -130,12 +132,13 @@ fn answer_request<R: AllocGlobal + Threads + Wait + Sync, S: Source, G: Gate + S
     gate: &G,
     request: Option<Request>,
     source: &mut S,
-) -> Result<Output, Failure>
+) -> Result<Output, Status>
     requires { IfSome request IsWithin }
     ensures due { IfOk result (λ due. AnswersRequest request (S.rest source.old) due.status due.text) }
     ensures exhausted { IfOk result (λ due. IsExhaustedFor request due.status (S.rest source.old) (S.rest source.new)) }
-    ensures fault { IsErrOf result Failure.ReadFault → Rose (S.faults source.old) (S.faults source.new) }
-    ensures reads { IsErrOf result Failure.ReadFault → reads request ≡ true }
+    ensures silent { IfErr result (λ why. is_silent why ≡ true) }
+    ensures fault { IsErrOf result Status.ReadFault → Rose (S.faults source.old) (S.faults source.new) }
+    ensures reads { IsErrOf result Status.ReadFault → reads request ≡ true }
     ensures source { reads request ≡ false → source.new ≡ source.old }
 {
     match request {
@@ -160,8 +163,9 @@ pub fn answer_words<R: AllocGlobal + Threads + Wait + Sync, S: Source, G: Gate +
     gate: &G,
     words: &[Name],
     source: &mut S,
-) -> Result<Output, Failure>
+) -> Result<Output, Status>
     ensures due { IfOk result (λ due. IsDue due.status words.now (S.rest source.old) due.text) }
+    ensures of_text { IfOk result (λ due. is_of_text due.status ≡ true) }
     ensures usage { asked_for words.now ≡ None → IfOk result (λ due. due.status ≡ Status.Usage) }
     ensures refused { OfCommand words.now (λ command. IsDeclined command (S.rest source.old) → IfOk result (λ due. due.status ≡ Status.Refused)) }
     ensures excessive { OfCommand words.now (λ command. IsExcessive command (S.rest source.old) → IfOk result (λ due. due.status ≡ Status.TooLong)) }
@@ -169,8 +173,9 @@ pub fn answer_words<R: AllocGlobal + Threads + Wait + Sync, S: Source, G: Gate +
     ensures faulty { (json : Bool) → asked_for words.now ≡ Some (Read Verify json) → IsVerified true (S.rest source.old) → IfOk result (λ due. due.status ≡ Status.Illegal) }
     ensures loaded { (size workers : ℕ) → (json : Bool) → asked_for words.now ≡ Some (Load size workers json) → IfOk result (λ due. due.status ≡ Status.Done) }
     ensures exhausted { IfOk result (λ due. IsExhaustedFor (asked_for words.now) due.status (S.rest source.old) (S.rest source.new)) }
-    ensures fault { IsErrOf result Failure.ReadFault → Rose (S.faults source.old) (S.faults source.new) }
-    ensures reads { IsErrOf result Failure.ReadFault → reads (asked_for words.now) ≡ true }
+    ensures silent { IfErr result (λ why. is_silent why ≡ true) }
+    ensures fault { IsErrOf result Status.ReadFault → Rose (S.faults source.old) (S.faults source.new) }
+    ensures reads { IsErrOf result Status.ReadFault → reads (asked_for words.now) ≡ true }
     ensures source { reads (asked_for words.now) ≡ false → source.new ≡ source.old }
 {
     let request = read_words(rt.alloc(), words)?;

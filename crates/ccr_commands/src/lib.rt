@@ -26,4 +26,4 @@ pub use laws::{
     threaded_runs_are_scheduled,
 };
 pub use outputs::Output;
-pub use status::{Failure, Status, Unfinished};
+pub use status::Status;

@@ -9,8 +9,6 @@ use Rattle.ccr_claim.specs.declared.asks.Asked.{Asked}
 use Rattle.ccr_claim.specs.declared.asks.Reply.{Reply}
 use Rattle.ccr_claim.specs.declared.asks.Reply.TheVariants as replies
 use Rattle.ccr_claim.specs.Asks.{AreSettling, MaybeReply, due_of, fits, is_settling, may_come}
-use Rattle.ccr_claim.specs.declared.asks.Ask.{Ask}
-use Rattle.ccr_claim.specs.declared.asks.Ask.TheVariants as kinds
 use Rattle.ccr_actor.specs.Nets.{Step, replies_of}
 use Rattle.ccr_actor.specs.Following.{Follows}
 use Rattle.ccr_actor.proofs.HandsSettle.{all_settle}
@@ -22,7 +20,7 @@ use Rattle.ccr_actor.specs.Courses.{owing}
 use Rattle.ccr_actor.specs.Plans.{plan_of}
 use Rattle.ccr_actor.specs.Within.{IsWithin}
 use Rattle.ccr_actor.proofs.WhatCountsIsKept.{after_short, kept_hand, kept_short, kept_whole}
-use Rattle.ccr_actor.proofs.ActorsFollowTheirSteps.{step_is}
+use Rattle.ccr_actor.proofs.ActorsFollowTheirSteps.{never-refused, step_is}
 use Rattle.ccr_actor.proofs.Dues.{due_sent}
 use Rattle.ccr_dispatch.specs.Ranks.{settles_in, admissions_left, drive_left, drive_most, owed_by, steps_left}
 use Rattle.ccr_dispatch.specs.ToRest.{IsSettled}
@@ -248,27 +246,10 @@ settled_less a new one (Ok reply) asks some all may so = by-so so
 settled_less a new one (Err refused) asks some all may so =
     absurd (refused-in a.wiring a.actor a.state (turn a.state) one (turn_is a.state) some all asks (subst (λ d. may_come d (Err refused) ≡ true) (due_sent a one asks) may))
   where
-    never : (ask : Ask) → is_settling ask ≡ true → may_come (due_of ask) (Err refused) ≡ true → ⊥
-    never (kinds.Post m) is may = cc is
-    never (kinds.Claim t slot) is may = cc is
-    never (kinds.Consume t) is may = cc may
-    never (kinds.Free t) is may = cc may
-    never (kinds.Commit t m) is may = cc is
-    never kinds.Admit is may = cc is
-    never (kinds.Over t r how) is may = cc may
-    never (kinds.Suspend t) is may = cc is
-    never (kinds.Book t r) is may = cc is
-    never (kinds.Unbook t) is may = cc may
-    never (kinds.Put t) is may = cc may
-    never kinds.Take is may = cc is
-    never kinds.Draw is may = cc is
-    never kinds.Leave is may = cc is
-    never kinds.Left is may = cc is
-
     refused-in : (wiring : Parts) (actor : ℕ) (state : State) (t : Turn) (one : Asked) → IsTurnOf state t → (state.hand ≡ [] → ⊥) → AreSettling state.hand → ask_in wiring actor state t ≡ Some one → may_come (due_of one.ask) (Err refused) ≡ true → ⊥
     refused-in wiring actor state (settle first more) one at some all asks may =
         let same : first ≡ one = cc asks in
-        never one.ask (subst (λ (x : Asked). is_settling x.ask ≡ true) same (subst AreSettling at all).0) may
+        never-refused one.ask (subst (λ (x : Asked). is_settling x.ask ≡ true) same (subst AreSettling at all).0) may
     refused-in wiring actor state (admit domain more) one at some all asks may = some at.1
     refused-in wiring actor state (drive spot more) one at some all asks may = some at.1
     refused-in wiring actor state go_on one at some all asks may = some at.1

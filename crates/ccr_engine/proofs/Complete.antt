@@ -5,31 +5,16 @@ use Rattle.std.specs.List.{slice_get}
 use Rattle.std.proofs.lemmas.Bool.Decides.{nat_tests}
 use Rattle.ccr_wiring.specs.declared.parts.Parts.{Parts}
 use Rattle.ccr_wiring.specs.declared.parts.PosterPart.{PosterPart}
-use Rattle.ccr_wiring.specs.Wirings.{spots}
 use Rattle.ccr_model.specs.declared.history.Event.{Event}
 use Rattle.ccr_model.specs.Posts.{posts_of_poster, posts_of_tasks}
 use Rattle.ccr_model.specs.Tasks.{running, count_unfinished}
 use Rattle.ccr_model.specs.Legal.{IsLegal, IsQuiet, has_shed, are_whole_from, is_complete}
-use Rattle.ccr_model.specs.Order.{first, post_from, script_post, fire_from, admit_from, put_first, run_task}
+use Rattle.ccr_model.specs.Order.{first, post_from, script_post}
 use Rattle.ccr_model.proofs.Allowing.{first_allowed}
 use Rattle.ccr_model.proofs.LegalIsCovered.{IsCovered-legal}
-use Rattle.ccr_model.proofs.QuietAllowsNone.{none_if_quiet}
+use Rattle.ccr_model.proofs.QuietAllowsNone.{NoneFirst-first, none_if_quiet}
 use Rattle.ccr_model.proofs.PostCounts.{ArePosted-legal}
-use Rattle.ccr_base.proofs.Options.{none_or, none_map, no_head, none-above}
-
--- no script has a line left, and no task runs
-record NoneLeft (w : Parts) (h : List Event) : Type 0 where
-  lines : post_from h 0 w.posters ≡ None
-  tasks : running h ≡ []
-
-none_left : (w : Parts) (c : ℕ) (h : List Event) → first w c h ≡ None → NoneLeft w h
-none_left w c h is =
-    let a = none_or (post_from h 0 w.posters) _ is in
-    let b = none_or (fire_from w c h (spots w)) _ a.1 in
-    let d = none_or (admit_from w h 0 w.arbiters) _ b.1 in
-    let e = none_or (put_first w h) _ d.1 in
-    let f = none_or (option_map (run_task w h) (slice_get (running h) 0)) _ e.1 in
-    record { lines = a.0; tasks = no_head (running h) (none_map (run_task w h) (slice_get (running h) 0) f.0) }
+use Rattle.ccr_base.proofs.Options.{none_or, none_map, none-above}
 
 whole_from : (h : List Event) (n : ℕ) (ps : List PosterPart) → ((k i : ℕ) (p : PosterPart) → n + k ≡ i → slice_get ps k ≡ Some p → posts_of_poster h i ≤ length p.posts) → post_from h n ps ≡ None → are_whole_from h n ps ≡ true
 whole_from h n [] few none = refl
@@ -52,10 +37,10 @@ spent w h legal idle true shed =
 -- the end of a legal run is complete
 pub is_complete-first : (w : Parts) (c : ℕ) (h : List Event) → IsLegal w h → first w c h ≡ None → is_complete w h ≡ true
 is_complete-first w c h legal is =
-    let left = none_left w c h is in
+    let none = NoneFirst-first w c h is in
     let known = ArePosted-legal w h legal in
-    let whole = whole_from h 0 w.posters (λ k i p e at. (let same : k ≡ i = omega arith in subst (λ j. posts_of_poster h j ≤ length p.posts) same (known.whole k p at))) left.lines in
-    rw (whole, spent w h legal left.tasks (has_shed h) refl) refl
+    let whole = whole_from h 0 w.posters (λ k i p e at. (let same : k ≡ i = omega arith in subst (λ j. posts_of_poster h j ≤ length p.posts) same (known.whole k p at))) none.post in
+    rw (whole, spent w h legal none.run (has_shed h) refl) refl
 
 -- where nothing is allowed, nothing comes first
 pub none_first-quiet : (w : Parts) (c : ℕ) (h : List Event) → length w.posters ≤ c → c ≤ 32 → IsLegal w h → IsQuiet w h → first w c h ≡ None

@@ -7,18 +7,18 @@ use Rattle.std.proofs.lemmas.Bool.Decides.{nat_tests}
 use Rattle.std.proofs.lemmas.List.Folds.{list_any-append}
 use Rattle.std.proofs.lemmas.Option.{slice_get_past}
 use Rattle.ccr_base.specs.declared.handlers.Action.{Action}
-use Rattle.ccr_base.specs.declared.handlers.Action.TheVariants.{Post, Fail, Add, Remove, Await}
 use Rattle.ccr_base.specs.declared.names.Spot.{Spot}
 use Rattle.ccr_base.specs.declared.names.Spot.TheVariants.{Branch, Site}
 use Rattle.ccr_base.specs.Names.{same_spot}
 use Rattle.ccr_wiring.specs.declared.parts.Parts.{Parts}
-use Rattle.ccr_wiring.specs.Wirings.{Placement, placement, placements, site_port, branch_of, awaited, actions_of, sites_from, spots, spots_from}
+use Rattle.ccr_wiring.specs.Wirings.{Placement, placement, placements, site_port, branch_of, awaited, actions_of, sites_from, spots, spots_from, await_port}
 use Rattle.ccr_wiring.specs.Valid.{IsValid}
 use Rattle.ccr_wiring.proofs.Soundness.{sound}
 use Rattle.ccr_base.proofs.Booleans.{and_false, eq-self}
 use Rattle.ccr_engine.specs.Indices.{first_index, branch_indices}
 use Rattle.ccr_engine.proofs.FirstIndices.{IsOnce, first_never, first_behind, first_within, once_never, once_later, once_here, once_behind}
 use Rattle.ccr_engine.proofs.BranchIndices.{indices_append}
+use Rattle.ccr_base.proofs.Filters.{length-filter_map}
 
 -- among the sites of a branch none passes that passes at no site of it
 sites_never : (test : Spot → Bool) (b j : ℕ) (ports : List ℕ) → ((k : ℕ) → test (Site b k) ≡ false) → list_any test (sites_from b j ports) ≡ false
@@ -96,12 +96,7 @@ site_index w n k = site_from w n k 0 (placements w) n (omega arith) ∙ of_place
 
 -- what is awaited is no more than the actions
 pub few_awaited : (actions : List Action) → length (awaited actions) ≤ length actions
-few_awaited [] = omega arith
-few_awaited (Await port ∷ actions) = omega (arith, few_awaited actions)
-few_awaited (Post port expr ∷ actions) = omega (arith, few_awaited actions)
-few_awaited (Add cause ∷ actions) = omega (arith, few_awaited actions)
-few_awaited (Remove cause ∷ actions) = omega (arith, few_awaited actions)
-few_awaited (Fail expr ∷ actions) = omega (arith, few_awaited actions)
+few_awaited actions = length-filter_map await_port actions
 
 -- no handler has so many sites
 pub no_site : (w : Parts) → IsValid w → (n k : ℕ) → 2 ^ 32 ≤ k → first_index (same_spot (Site n k)) (spots w) ≡ None

@@ -2,7 +2,6 @@
 use Rattle.std.proofs.Common.{◌≡◌, ℕ, zero, suc, ◌+◌, ◌≤◌, Bool, true, false, not, List, [], ◌∷◌, ◌++◌, length, take, filter, Some, None, refl, sym, ap, ◌∙◌, subst, arith, length-take}
 use Rattle.std.specs.Prelude.{◌==◌, if◌then◌else◌, nat_le}
 use Rattle.std.specs.List.{list_all}
-use Rattle.std.proofs.lemmas.Bool.{and_from}
 use Rattle.std.proofs.lemmas.Bool.Decides.{nat_tests}
 use Rattle.ccr_base.specs.declared.names.MsgId.{MsgId}
 use Rattle.ccr_base.specs.declared.names.Spot.{Spot}
@@ -24,27 +23,35 @@ use Rattle.ccr_model.proofs.TakenOnce.{joined_some}
 use Rattle.ccr_model.proofs.MessageNames.{any_fits}
 use Rattle.ccr_gen.specs.Generated.{any_of, generated}
 use Rattle.ccr_gen.specs.Weights.{weight, value, load, is_open}
+use Rattle.ccr_model.proofs.Members.{all_from, Among-filter, Among-take}
+
+-- a total of messages: what each is worth, added up
+abbrev pub AddsUp : (Msg → ℕ) → (List Msg → ℕ) → Type 0
+AddsUp worth total = (total [] ≡ 0) × ((m : Msg) (ms : List Msg) → total (m ∷ ms) ≡ worth m + total ms)
 
 -- a stronger test keeps no more
-load_stronger : (wide strict : Msg → Bool) → ((x : Msg) → strict x ≡ true → wide x ≡ true) → (ms : List Msg) → load (filter strict ms) ≤ load (filter wide ms)
-load_stronger wide strict stronger [] = omega arith
-load_stronger wide strict stronger (x ∷ ms) = grind (arith, stronger x, load_stronger wide strict stronger ms)
+pub stronger : (worth : Msg → ℕ) (total : List Msg → ℕ) → AddsUp worth total → (wide strict : Msg → Bool) → ((x : Msg) → strict x ≡ true → wide x ≡ true) → (ms : List Msg) → total (filter strict ms) ≤ total (filter wide ms)
+stronger worth total adds wide strict less [] = omega arith
+stronger worth total adds wide strict less (x ∷ ms) = grind (arith, less x, adds.1 x (filter strict ms), adds.1 x (filter wide ms), stronger worth total adds wide strict less ms)
 
 -- what was kept and is no more, of some that also pass another test, is off
-pub fall : (n : ℕ) (wide strict other : Msg → Bool) → ((x : Msg) → strict x ≡ true → wide x ≡ true) → (ms : List Msg) → list_all (λ x. not (strict x)) (take n (filter other (filter wide ms))) ≡ true
-    → load (filter strict ms) + load (take n (filter other (filter wide ms))) ≤ load (filter wide ms)
-fall zero wide strict other stronger ms gone = grind (arith, load_stronger wide strict stronger ms)
-fall (suc n) wide strict other stronger [] gone = omega arith
-fall (suc n) wide strict other stronger (x ∷ ms) gone = by (wide x) (other x) (strict x) refl refl refl gone (stronger x) (fall n wide strict other stronger ms) (fall (suc n) wide strict other stronger ms)
+pub fall : (worth : Msg → ℕ) (total : List Msg → ℕ) → AddsUp worth total → (n : ℕ) (wide strict other : Msg → Bool) → ((x : Msg) → strict x ≡ true → wide x ≡ true) → (ms : List Msg) → list_all (λ x. not (strict x)) (take n (filter other (filter wide ms))) ≡ true
+    → total (filter strict ms) + total (take n (filter other (filter wide ms))) ≤ total (filter wide ms)
+fall worth total adds zero wide strict other less ms gone = grind (arith, adds.0, stronger worth total adds wide strict less ms)
+fall worth total adds (suc n) wide strict other less [] gone = grind (arith, adds.0)
+fall worth total adds (suc n) wide strict other less (x ∷ ms) gone = by (wide x) (other x) (strict x) refl refl refl gone (less x) (fall worth total adds n wide strict other less ms) (fall worth total adds (suc n) wide strict other less ms)
   where
     by : (a b c : Bool) → wide x ≡ a → other x ≡ b → strict x ≡ c → list_all (λ x. not (strict x)) (take (suc n) (filter other (filter wide (x ∷ ms)))) ≡ true → (strict x ≡ true → wide x ≡ true)
-        → (list_all (λ x. not (strict x)) (take n (filter other (filter wide ms))) ≡ true → load (filter strict ms) + load (take n (filter other (filter wide ms))) ≤ load (filter wide ms))
-        → (list_all (λ x. not (strict x)) (take (suc n) (filter other (filter wide ms))) ≡ true → load (filter strict ms) + load (take (suc n) (filter other (filter wide ms))) ≤ load (filter wide ms))
-        → load (filter strict (x ∷ ms)) + load (take (suc n) (filter other (filter wide (x ∷ ms)))) ≤ load (filter wide (x ∷ ms))
-    by false b c ea eb ec gone weak less same = grind (arith, ea, ec, gone, weak, same)
-    by true false c ea eb ec gone weak less same = grind (arith, ea, eb, ec, gone, same)
-    by true true true ea eb ec gone weak less same = grind (arith, ea, eb, ec, gone)
-    by true true false ea eb ec gone weak less same = grind (arith, ea, eb, ec, gone, less)
+        → (list_all (λ x. not (strict x)) (take n (filter other (filter wide ms))) ≡ true → total (filter strict ms) + total (take n (filter other (filter wide ms))) ≤ total (filter wide ms))
+        → (list_all (λ x. not (strict x)) (take (suc n) (filter other (filter wide ms))) ≡ true → total (filter strict ms) + total (take (suc n) (filter other (filter wide ms))) ≤ total (filter wide ms))
+        → total (filter strict (x ∷ ms)) + total (take (suc n) (filter other (filter wide (x ∷ ms)))) ≤ total (filter wide (x ∷ ms))
+    by false b c ea eb ec gone weak again same = grind (arith, ea, ec, gone, weak, same)
+    by true false c ea eb ec gone weak again same = grind (arith, ea, eb, ec, gone, adds.1 x (filter strict ms), adds.1 x (filter wide ms), same)
+    by true true true ea eb ec gone weak again same = grind (arith, ea, eb, ec, gone)
+    by true true false ea eb ec gone weak again same = grind (arith, ea, eb, ec, gone, adds.1 x (filter wide ms), adds.1 x (take n (filter other (filter wide ms))), again)
+
+loads : AddsUp (λ (m : Msg). weight m.port) load
+loads = (refl, λ m ms. refl)
 
 pub all_named : (ms : List Msg) → list_all (λ (x : Msg). has_message (names_of ms) x.id) ms ≡ true
 all_named [] = refl
@@ -80,13 +87,7 @@ load_each port (m ∷ ms) all =
     rw (here, load_each port ms parts.1) refl
 
 all_at : (port n : ℕ) (ms : List Msg) → list_all (at port) (take n (filter (at port) ms)) ≡ true
-all_at port zero ms = refl
-all_at port (suc n) [] = refl
-all_at port (suc n) (m ∷ ms) = by (at port m) refl (all_at port n ms) (all_at port (suc n) ms)
-  where
-    by : (b : Bool) → at port m ≡ b → list_all (at port) (take n (filter (at port) ms)) ≡ true → list_all (at port) (take (suc n) (filter (at port) ms)) ≡ true → list_all (at port) (take (suc n) (filter (at port) (m ∷ ms))) ≡ true
-    by true is less same = rw is (and_from _ _ is less)
-    by false is less same = rw (is, same) refl
+all_at port n ms = all_from (at port) (take n (filter (at port) ms)) (λ x is. (Among-filter (at port) ms x (Among-take n (filter (at port) ms) x is)).1)
 
 -- the selection of a slot of any messages
 slot_takes : (port count : ℕ) (ms xs : List Msg) → selection (any_of port count) ms ≡ Some xs → (xs ≡ take count ms) × (length xs ≡ count)
@@ -111,15 +112,15 @@ first_slot port count h front back is =
     let swap : held h port ≡ kept = filter_swap (is_open gone) (at port) (posts h) in
     let front_is : front ≡ take count kept = got.0 ∙ ap (take count) swap in
     let all : list_all (λ (x : Msg). not (is_open (gone ++ (names_of front ++ back)) x)) (take count kept) ≡ true = subst (λ (ms : List Msg). list_all (λ (x : Msg). not (is_open (gone ++ (names_of front ++ back)) x)) ms ≡ true) front_is (all_gone gone back front) in
-    let less = fall count (is_open gone) (is_open (gone ++ (names_of front ++ back))) (at port) (still_open gone (names_of front ++ back)) (posts h) all in
+    let less : load (filter (is_open (gone ++ (names_of front ++ back))) (posts h)) + load (take count kept) ≤ load (filter (is_open gone) (posts h)) = fall (λ (m : Msg). weight m.port) load loads count (is_open gone) (is_open (gone ++ (names_of front ++ back))) (at port) (still_open gone (names_of front ++ back)) (posts h) all in
     let much : load (take count kept) ≡ each (weight port) count = load_each port (take count kept) (all_at port count (filter (is_open gone) (posts h))) ∙ ap (each (weight port)) (ap length (sym front_is) ∙ got.1) in
     omega (arith, less, much)
 
 -- an allowed selection takes off what the firing leads to
 pub fire_falls : (size : ℕ) (h : List Event) (s : Spot) (names : List MsgId) → is_selection (generated size) h s names ≡ true
     → load (filter (is_open (taken h ++ names)) (posts h)) + value s ≤ load (filter (is_open (taken h)) (posts h))
-fire_falls size h (Site branch site) names is = omega (arith, load_stronger (is_open (taken h)) (is_open (taken h ++ names)) (still_open (taken h) names) (posts h))
-fire_falls size h (Branch (suc (suc (suc branch)))) names is = omega (arith, load_stronger (is_open (taken h)) (is_open (taken h ++ names)) (still_open (taken h) names) (posts h))
+fire_falls size h (Site branch site) names is = omega (arith, stronger (λ (m : Msg). weight m.port) load loads (is_open (taken h)) (is_open (taken h ++ names)) (still_open (taken h) names) (posts h))
+fire_falls size h (Branch (suc (suc (suc branch)))) names is = omega (arith, stronger (λ (m : Msg). weight m.port) load loads (is_open (taken h)) (is_open (taken h ++ names)) (still_open (taken h) names) (posts h))
 fire_falls size h (Branch zero) names is =
     let slots = any_of 0 1 ∷ any_of 1 1 ∷ [] in
     let got = some_of (λ (ms : List Msg). same_lists same_message (names_of ms) names) (selection_of_slots (held h) slots) is in

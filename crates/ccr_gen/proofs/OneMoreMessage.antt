@@ -13,6 +13,7 @@ use Rattle.ccr_wiring.specs.declared.parts.PosterPart.{PosterPart}
 use Rattle.ccr_model.specs.Posts.{is_script_of, is_message_of, made_by_poster}
 use Rattle.ccr_model.specs.Firings.{Firing}
 use Rattle.ccr_model.proofs.PostNames.{made_by_poster-push, made_by_poster-other, made_by_poster-task}
+use Rattle.ccr_base.proofs.Options.{drop_at}
 use Rattle.ccr_base.proofs.SameNames.{same_task-is, same_task-self}
 use Rattle.ccr_gen.specs.Lines.{lines, left}
 use Rattle.ccr_gen.specs.Weights.{value, due, by_task}
@@ -57,11 +58,6 @@ left_later weight ms m actor place number (p ∷ ps) named less =
     let apart : (actor == number) ≡ false = grind (arith, nat_tests, less) in
     rw (made_by_poster-other ms m number actor place named apart, left_later weight ms m actor place (number + 1) ps named (omega arith)) refl
 
-lines_drop : (weight : ℕ → ℕ) (n : ℕ) (ss : List Sent) (s : Sent) → slice_get ss n ≡ Some s → lines weight (drop n ss) ≡ weight s.port + lines weight (drop (n + 1) ss)
-lines_drop weight n [] s is = absurd cc
-lines_drop weight zero (x ∷ ss) s is = let same : x ≡ s = cc in rw same refl
-lines_drop weight (suc n) (x ∷ ss) s is = let on : suc n + 1 ≡ suc (n + 1) = omega arith in rw on (lines_drop weight n ss s is)
-
 -- a script's post is left no more
 pub left_script : (weight : ℕ → ℕ) (ms : List Msg) (m : Msg) (actor place number k : ℕ) (ps : List PosterPart) (p : PosterPart) (s : Sent) → m.id ≡ Script actor place → actor ≡ number + k → slice_get ps k ≡ Some p → slice_get p.posts (made_by_poster ms actor) ≡ Some s
     → left weight (ms ++ m ∷ []) number ps + weight s.port ≡ left weight ms number ps
@@ -73,7 +69,7 @@ left_script weight ms m actor place number zero (q ∷ ps) p s named at found li
     let more : made_by_poster (ms ++ m ∷ []) number ≡ made_by_poster ms number + 1 = grind (arith, made_by_poster-push ms m number, own) in
     let next : slice_get q.posts (made_by_poster ms number) ≡ Some s = subst (λ (n : ℕ). slice_get q.posts (made_by_poster ms n) ≡ Some s) its (subst (λ (x : PosterPart). slice_get x.posts (made_by_poster ms actor) ≡ Some s) (sym same) line) in
     let rest = left_later weight ms m actor place (number + 1) ps named (omega (arith, its)) in
-    let step = lines_drop weight (made_by_poster ms number) q.posts s next in
+    let step : lines weight (drop (made_by_poster ms number) q.posts) ≡ weight s.port + lines weight (drop (made_by_poster ms number + 1) q.posts) = ap (lines weight) (drop_at q.posts (made_by_poster ms number) s next) in
     rw (more, rest) (omega (arith, step))
 left_script weight ms m actor place number (suc k) (q ∷ ps) p s named at found line =
     let apart : (actor == number) ≡ false = grind (arith, nat_tests, at) in

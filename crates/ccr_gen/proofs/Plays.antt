@@ -20,8 +20,9 @@ record Pays (spot : Spot) (index : ℕ) (sent : Sent) : Type 0 where
   first : index ≡ 0
   worth : 2 + weight sent.port ≤ value spot
 
-none_at : (index : ℕ) (sent : Sent) (C : Type 0) → slice_get {X = Sent} [] index ≡ Some sent → C
-none_at index sent C is = absurd cc
+-- in an empty list nothing stands
+pub none_at : {X : Type 0} (index : ℕ) (x : X) (C : Type 0) → slice_get {X = X} [] index ≡ Some x → C
+none_at index x C is = absurd cc
 
 worth_of : (port worth : ℕ) (x sent : Sent) → Some x ≡ Some sent → x.port ≡ port → 2 + weight port ≤ worth → 2 + weight sent.port ≤ worth
 worth_of port worth x sent is at less =

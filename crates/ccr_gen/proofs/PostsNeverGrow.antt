@@ -8,9 +8,7 @@ use Rattle.std.proofs.lemmas.Bool.Decides.{nat_tests}
 use Rattle.ccr_base.specs.declared.names.MsgId.{MsgId}
 use Rattle.ccr_base.specs.declared.names.MsgId.TheVariants.{Script, Task}
 use Rattle.ccr_base.specs.declared.messages.Msg.{Msg}
-use Rattle.ccr_base.specs.declared.messages.Sent.{Sent}
-use Rattle.ccr_base.specs.Names.{has_task, same_lists}
-use Rattle.ccr_base.specs.Values.{same_value}
+use Rattle.ccr_base.specs.Names.{has_task}
 use Rattle.ccr_wiring.specs.declared.parts.PosterPart.{PosterPart}
 use Rattle.ccr_model.specs.declared.history.Event.{Event}
 use Rattle.ccr_model.specs.declared.history.Event.TheVariants as events
@@ -22,7 +20,7 @@ use Rattle.ccr_model.specs.Rules.{refusal_of_post, is_script_line, is_play_post,
 use Rattle.ccr_model.specs.Legal.{IsAllowed, IsLegal, are_whole_from, has_shed, is_complete}
 use Rattle.ccr_base.proofs.Booleans.{both}
 use Rattle.ccr_base.proofs.Options.{some_of, some_then}
-use Rattle.ccr_model.proofs.PostNames.{along, refused_not}
+use Rattle.ccr_model.proofs.PostNames.{IsPost-test, along, refused_not}
 use Rattle.ccr_model.proofs.OneMoreEvent.{posts-push, firings-push}
 use Rattle.ccr_model.proofs.TakenOnce.{FireFacts-allowed, taken-push}
 use Rattle.ccr_gen.specs.Posters.{script, posters}
@@ -42,12 +40,6 @@ load_more gone (x ∷ ms) m = grind (arith, load_more gone ms m)
 tasked_more : (ms : List Msg) (m : Msg) → task_messages (ms ++ m ∷ []) ≡ task_messages ms + (if is_task_message m.id then 1 else 0)
 tasked_more ms m = grind (arith, common_steps)
 
-pub posted_port : (m : Msg) (s : Sent) → is_post m s ≡ true → m.port ≡ s.port
-posted_port m s is =
-    let parts = both ((m.port == s.port) && same_value m.value s.value) (same_lists (λ c d. c == d) m.causes s.causes) is in
-    let port = (both (m.port == s.port) (same_value m.value s.value) parts.0).0 in
-    grind (arith, nat_tests, port)
-
 abbrev Falls : ℕ → List Event → Event → Type 0
 Falls size h e = whole size (h ++ e ∷ []) ≤ whole size h
 
@@ -58,7 +50,7 @@ post_falls size h m (Script actor place) named is =
     let its = some_of (is_post m) (option_and_then (λ (p : PosterPart). slice_get p.posts place) (slice_get (posters size) actor)) parts.1 in
     let poster = some_then (λ (p : PosterPart). slice_get p.posts place) (slice_get (posters size) actor) its.0 its.1 in
     let next : place ≡ made_by_poster (posts h) actor = grind (arith, nat_tests, parts.0) in
-    let port = posted_port m its.0 its.2 in
+    let port = (IsPost-test m its.0 its.2).port in
     let weighs : weight m.port ≡ weight its.0.port = ap weight port in
     let there : slice_get poster.0.posts (made_by_poster (posts h) actor) ≡ Some its.0 = subst (λ (n : ℕ). slice_get poster.0.posts n ≡ Some its.0) next poster.2 in
     let a = left_script weight (posts h) m actor place 0 actor (posters size) poster.0 its.0 named (omega arith) poster.1 there in
@@ -73,7 +65,7 @@ post_falls size h m (Task t place) named is =
     let counted = (both (has_task (running h) t) (place == posts_of_task h t) parts.0).1 in
     let paid = post_pays size h t place its.0 its.1 in
     let none : by_task (posts h) t ≡ 0 = grind (arith, nat_tests, counted, paid.2) in
-    let port = posted_port m its.0 its.2 in
+    let port = (IsPost-test m its.0 its.2).port in
     let weighs : weight m.port ≡ weight its.0.port = ap weight port in
     let a = left_task weight (posts h) m t place 0 (posters size) named in
     let b = load_more (taken h) (posts h) m in

@@ -22,6 +22,7 @@ use Rattle.ccr_places.specs.TaskTables.{tasks_where, kept_of, contains-tasks_whe
 use Rattle.ccr_interleave.specs.declared.admission.Admission.{Admission}
 use Rattle.ccr_interleave.specs.declared.admission.Admission.TheVariants.{Outside, Shared, Alone}
 use Rattle.ccr_interleave.specs.Admissions.{Tied, is_shared, is_alone, admitted_as}
+use Rattle.ccr_base.proofs.Booleans.{refuted}
 
 pub none-tied : Tied [] [] 0 0
 unfolding IsDistinct
@@ -85,11 +86,7 @@ module _ (old new : List (TaskId × Admission)) (waiting : List Waiting) (shared
     (none : kept_of old task ≡ None) (distinct : IsDistinct same_task (keys_of new))
     (updates : (other : TaskId) → kept_of new other ≡ cond (same_task task other) (Some Outside) (kept_of old other)) where
   not_waiting : list_any (λ (w : Waiting). same_task task w.task) waiting ≡ false
-  not_waiting = by (list_any (λ (w : Waiting). same_task task w.task) waiting) refl
-    where
-      by : (b : Bool) → list_any (λ (w : Waiting). same_task task w.task) waiting ≡ b → b ≡ false
-      by true e = absurd (true≢false (ap is_some (sym (tied.outside task e) ∙ none)))
-      by false e = refl
+  not_waiting = refuted (list_any (λ (w : Waiting). same_task task w.task) waiting) (λ e. true≢false (ap is_some (sym (tied.outside task e) ∙ none)))
 
   pub sets_fired : (tasks_where is_shared new ≡ tasks_where is_shared old) × (tasks_where is_alone new ≡ tasks_where is_alone old)
   sets_fired = (

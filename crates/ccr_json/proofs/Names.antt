@@ -26,14 +26,10 @@ use Rattle.ccr_json.specs.Names.{is_plain_arbiter, HasPlainNames}
 use Rattle.std.proofs.lemmas.Bool.{and_parts as both}
 use Rattle.ccr_base.proofs.Booleans.{not_refuted}
 use Rattle.ccr_base.proofs.Texts.{same_word}
-use Rattle.ccr_base.proofs.Lists.{any_parts}
+use Rattle.ccr_base.proofs.Lists.{any_parts, all_weaker}
 
 letters_plain : (others : List ℕ) → list_all may_be_in_name others ≡ true → is_plain others ≡ true
-letters_plain [] all = refl
-letters_plain (b ∷ others) all =
-    let parts = both (may_be_in_name b) (list_all may_be_in_name others) all in
-    let small : is_ascii b ≡ true = grind (arith, nat_tests, parts.0) in
-    rw (small, letters_plain others parts.1) refl
+letters_plain others all = all_weaker may_be_in_name is_ascii (λ b is. grind (arith, nat_tests, is)) others all
 
 plain_name : (name : List ℕ) → is_name_of name ≡ true → is_plain name ≡ true
 plain_name [] named = absurd cc

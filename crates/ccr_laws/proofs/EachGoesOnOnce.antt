@@ -1,18 +1,13 @@
 -- Tasks that came, and those of them that went on: each goes on once.
-use Rattle.std.proofs.Common.{◌≡◌, ◌+◌, ◌≤◌, Bool, true, false, List, [], ◌∷◌, ◌++◌, length, filter, arith, length-append}
+use Rattle.std.proofs.Common.{◌≡◌, ◌+◌, ◌≤◌, true, false, List, [], ◌∷◌, ◌++◌, length, arith, length-append}
 use Rattle.std.proofs.lemmas.Grind.{common_steps}
 use Rattle.ccr_base.specs.declared.names.TaskId.{TaskId}
 use Rattle.ccr_base.specs.Names.{has_task, without}
-use Rattle.ccr_model.proofs.TasksLeft.{less_left, of_filter}
-use Rattle.ccr_model.proofs.TaskLists.{has_oldest}
+use Rattle.ccr_model.proofs.TasksLeft.{less_left}
 
 -- as many as went on and as may still go are no more than came
 pub record Fits (came gone : List TaskId) : Type 0 where
   pub few : length gone + length (without came gone) ≤ length came
-
--- the head of what passes is a member
-pub head_member : (p : TaskId → Bool) (ts : List TaskId) (t : TaskId) (rest : List TaskId) → filter p ts ≡ t ∷ rest → has_task ts t ≡ true
-head_member p ts t rest is = (of_filter p ts t (has_oldest (filter p ts) rest t is)).0
 
 pub Fits-came : (came gone : List TaskId) (t : TaskId) → Fits came gone → Fits (came ++ t ∷ []) gone
 Fits-came came gone t fits = record { few = grind (arith, common_steps, fits.few) }

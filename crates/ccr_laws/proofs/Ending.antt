@@ -12,12 +12,12 @@ use Rattle.ccr_wiring.specs.Wirings.{Placement}
 use Rattle.ccr_model.specs.declared.history.Event.{Event}
 use Rattle.ccr_model.specs.declared.history.Event.TheVariants.{Post, Fire, Admit, Put, Start, End}
 use Rattle.ccr_model.specs.declared.history.EndHow.{EndHow}
-use Rattle.ccr_base.specs.Names.{has_task, without}
+use Rattle.ccr_base.specs.Names.{has_task}
 use Rattle.ccr_model.specs.Posts.{posts}
-use Rattle.ccr_model.specs.Firings.{Firing, firings, firing_of, firing_named, spot_of, fired, ever_admitted, put, started, ended, dropped, cut}
+use Rattle.ccr_model.specs.Firings.{Firing, firings, firing_of, firing_named, spot_of, fired, ever_admitted, put, started, ended, cut}
 use Rattle.ccr_model.specs.TaskData.{placement_of}
-use Rattle.ccr_model.specs.Tasks.{is_interleave, fired_by, waiting, is_for_queue, queued, running}
-use Rattle.ccr_model.specs.Rules.{is_first, is_oldest_waiting, may_put, is_oldest_queued}
+use Rattle.ccr_model.specs.Tasks.{is_interleave, fired_by, waiting, running}
+use Rattle.ccr_model.specs.Rules.{is_first, is_oldest_waiting, may_put}
 use Rattle.ccr_model.specs.Legal.{IsAllowed, IsLegal}
 use Rattle.ccr_model.proofs.PostNames.{along, refused_not}
 use Rattle.ccr_model.proofs.QuietAllowsNone.{first_is}
@@ -29,8 +29,9 @@ use Rattle.ccr_model.proofs.TasksLeft.{of_without, out_left}
 use Rattle.ccr_base.proofs.Booleans.{both}
 use Rattle.ccr_model.proofs.FiredTasks.{fired_has, placement_fired}
 use Rattle.ccr_model.proofs.PostCounts.{few_posts}
+use Rattle.ccr_model.proofs.WhoWasPut.{StartFacts-allowed, StartFacts-queued}
 use Rattle.ccr_laws.specs.Potential.{TakesSome, event_bound}
-use Rattle.ccr_laws.proofs.EachGoesOnOnce.{Fits, Fits-came, Fits-gone, head_member}
+use Rattle.ccr_laws.proofs.EachGoesOnOnce.{Fits, Fits-came, Fits-gone}
 use Rattle.ccr_laws.proofs.MessagesAreTakenOnce.{untaken_post, untaken_fire}
 
 -- what is known of the numbers of events of each kind
@@ -62,16 +63,6 @@ put_next w h t is =
     let front = both (not (has_task (put h) t)) (not (has_task (cut h) t)) parts.0 in
     let placed = some_of _ (spot_of h t) parts.1 in
     (spot_fired h t placed.0 placed.1, grind (arith, front.0))
-
--- who starts was put, and didn't start
-start_next : (w : Parts) (h : List Event) (t : TaskId) → is_oldest_queued w h t ≡ true → (has_task (put h) t ≡ true) × (has_task (started h) t ≡ false)
-start_next w h t is =
-    let found = some_of (λ (s : Placement). is_first (queued w h s.branch.queue) t) (placement_of w h t) is in
-    let q = found.0.branch.queue in
-    let head = head_rest (queued w h q) t (first_is (queued w h q) t found.2) in
-    let among = head_member (is_for_queue w h q) (without (put h) (started h ++ dropped h)) t head.0 head.1 in
-    let left = of_without (put h) (started h ++ dropped h) t among in
-    (left.0, out_left (started h) (dropped h) t left.1)
 
 few_post : (h : List Event) (m : Msg) → AreFew h → AreFew (h ++ Post m ∷ [])
 few_post h m few =
@@ -127,12 +118,12 @@ few_put w h t d allowed few =
 
 few_start : (w : Parts) (h : List Event) (t : TaskId) (a : ℕ) → IsAllowed w h (Start t a) → AreFew h → AreFew (h ++ Start t a ∷ [])
 few_start w h t a allowed few =
-    let next = start_next w h t (refused_not (is_oldest_queued w h t) _ _ allowed).0 in
+    let next = StartFacts-queued w h t (StartFacts-allowed w h t a allowed) in
     record {
       fires = same_fires h (Start t a) refl (grind (arith, common_steps)) (grind (arith, common_steps)) few;
       admits = rw (firings-push, ever_admitted-push, append-nil, append-nil) few.admits;
       puts = rw (firings-push, put-push, append-nil, append-nil) few.puts;
-      starts = rw (put-push, started-push, append-nil) (Fits-gone (put h) (started h) t few.starts next.0 next.1);
+      starts = rw (put-push, started-push, append-nil) (Fits-gone (put h) (started h) t few.starts next.put_so next.not_started);
       ends = rw (started-push, ended-push, append-nil) (Fits-came (started h) (ended h) t few.ends);
     }
 

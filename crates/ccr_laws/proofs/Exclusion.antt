@@ -23,7 +23,8 @@ use Rattle.ccr_base.proofs.Booleans.{not_true, both, or_left, or_right}
 use Rattle.ccr_model.proofs.ExclusiveRootsAreAlone.{is_alone-legal}
 use Rattle.ccr_model.specs.AtWork.{is_at_work}
 use Rattle.ccr_model.specs.Interleaves.{is_placement_in, is_exclusive_in, is_of_interleave, is_of_exclusive}
-use Rattle.ccr_model.proofs.TaskLists.{of_one, only_one, passes_all}
+use Rattle.ccr_model.proofs.Members.{all_pass}
+use Rattle.ccr_model.proofs.TaskLists.{of_one, only_one, task_among}
 use Rattle.ccr_model.proofs.WhoWasPut.{ArePlaced-legal}
 use Rattle.ccr_model.proofs.Roots.{IsAtWork, at_work_admitted, one_at_work, work_so, placement_of_root, admitted_whole}
 
@@ -45,7 +46,7 @@ pub alone : (w : Parts) (h : List Event) → IsLegal w h → (i : ℕ) (t : Task
 alone w h legal i t exclusive is = of_test (list_all (is_concurrent_task w h) (admitted w h i)) refl (is_alone-legal w h legal i)
   where
     of_test : (b : Bool) → list_all (is_concurrent_task w h) (admitted w h i) ≡ b → b || nat_le (length (admitted w h i)) 1 ≡ true → admitted w h i ≡ t ∷ []
-    of_test true e one = let passes = passes_all (is_concurrent_task w h) (admitted w h i) t is e in let fails = not_concurrent w h i t exclusive in absurd (cc)
+    of_test true e one = let passes = all_pass (is_concurrent_task w h) (admitted w h i) t e (task_among (admitted w h i) t is) in let fails = not_concurrent w h i t exclusive in absurd (cc)
     of_test false e one = let few : length (admitted w h i) ≤ 1 = grind (arith, nat_tests, one) in only_one (admitted w h i) t is few
 
 -- from the admission on until it is over

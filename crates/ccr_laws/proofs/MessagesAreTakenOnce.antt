@@ -1,5 +1,5 @@
 -- Each firing takes a message that no other took.
-use Rattle.std.proofs.Common.{◌≡◌, ℕ, zero, suc, ◌+◌, ◌≤◌, ◌⊎◌, inl, inr, Bool, true, false, not, ◌&&◌, ◌||◌, List, [], ◌∷◌, ◌++◌, length, take, filter, Option, Some, None, refl, arith, subst}
+use Rattle.std.proofs.Common.{◌≡◌, ℕ, zero, suc, ◌+◌, ◌≤◌, inl, inr, Bool, true, false, not, ◌&&◌, ◌||◌, List, [], ◌∷◌, ◌++◌, length, take, filter, Option, Some, None, refl, arith, subst, ap, ◌∙◌}
 use Rattle.std.specs.Prelude.{◌==◌, if◌then◌else◌, nat_le}
 use Rattle.std.specs.Option.{option_map_or}
 use Rattle.std.proofs.lemmas.Grind.{common_steps}
@@ -21,10 +21,10 @@ use Rattle.ccr_wiring.specs.Wirings.{Placement, placement, site_port}
 use Rattle.ccr_model.specs.Posts.{posts, taken, held}
 use Rattle.ccr_model.specs.Selection.{names_of, selection_of_slots, are_first, are_split, is_selection_of, are_oldest, is_selection}
 use Rattle.ccr_model.proofs.Allowing.{filter_head}
-use Rattle.ccr_model.proofs.Members.{Among, Among-left, Among-right}
+use Rattle.ccr_model.proofs.Members.{Among, Among-left, Among-right, Among-filter, Among-kept, kept_among, fewer_kept, filter_all}
 use Rattle.ccr_model.proofs.TakenOnce.{joined_some, untaken}
 use Rattle.ccr_base.proofs.Booleans.{both, either}
-use Rattle.ccr_base.proofs.Filters.{length-filter_stronger}
+use Rattle.ccr_base.proofs.Filters.{filter_swap}
 use Rattle.ccr_laws.specs.Potential.{takes_some, TakesSome}
 
 -- one of the names is that of a message of one of the ports
@@ -120,17 +120,12 @@ selection_named w some h (Site b k) names is = of_option (site_port w b k) is
 
 -- a test that fails for one more of a port's messages keeps fewer of all
 one_less : (port : ℕ) (p q : Msg → Bool) → ((x : Msg) → q x ≡ true → p x ≡ true) → (m : Msg) → q m ≡ false → (ms : List Msg) → Among m (filter p (filter (λ (x : Msg). x.port == port) ms)) → length (filter q ms) + 1 ≤ length (filter p ms)
-one_less port p q weaker m out [] among = absurd among
-one_less port p q weaker m out (x ∷ ms) among = of_tests (x.port == port) (p x) refl refl among (length-filter_stronger p q weaker ms) (weaker x) (one_less port p q weaker m out ms)
-  where
-    of_tests : (a b : Bool) → (x.port == port) ≡ a → p x ≡ b → Among m (filter p (if a then x ∷ filter (λ (y : Msg). y.port == port) ms else filter (λ (y : Msg). y.port == port) ms)) → length (filter q ms) ≤ length (filter p ms) → (q x ≡ true → p x ≡ true) → (Among m (filter p (filter (λ (y : Msg). y.port == port) ms)) → length (filter q ms) + 1 ≤ length (filter p ms)) → length (filter q (x ∷ ms)) + 1 ≤ length (filter p (x ∷ ms))
-    of_tests false b at passes here all weak rest = let less = rest here in grind (arith, less, weak)
-    of_tests true false at passes here all weak rest = let less = rest (rw passes at here) in grind (arith, less, weak)
-    of_tests true true at passes here all weak rest = first_or_later (rw passes at here)
-      where
-        first_or_later : (m ≡ x) ⊎ Among m (filter p (filter (λ (y : Msg). y.port == port) ms)) → length (filter q (x ∷ ms)) + 1 ≤ length (filter p (x ∷ ms))
-        first_or_later (inl e) = let fails : q x ≡ false = rw (← e) out in grind (arith, fails, passes, all)
-        first_or_later (inr later) = let less = rest later in grind (arith, less, weak)
+one_less port p q weaker m out ms among =
+    let there = Among-filter p (filter (λ (x : Msg). x.port == port) ms) m among in
+    let less = fewer_kept q (filter p ms) m (kept_among p ms m (Among-kept (λ (x : Msg). x.port == port) ms m there.0) there.1) out in
+    let same : filter q (filter p ms) ≡ filter q ms = filter_swap q p ms ∙ filter_all p (filter q ms) (λ x is. weaker x (Among-filter q ms x is).1) in
+    let long = ap length same in
+    omega (arith, less, long)
 
 pub untaken_post : (h : List Event) (m : Msg) → length (untaken (h ++ Post m ∷ [])) ≤ length (untaken h) + 1
 untaken_post h m = grind (arith, common_steps)

@@ -1,5 +1,5 @@
 -- Each posted message has exactly one fate.
-use Rattle.std.proofs.Common.{◌≡◌, inl, inr, Bool, true, false, not, List, [], ◌∷◌, ◌++◌, filter, Option, Some, None, refl, sym, ap, ◌∙◌, subst}
+use Rattle.std.proofs.Common.{◌≡◌, inl, Bool, true, false, not, List, [], ◌∷◌, ◌++◌, Option, Some, None, refl, sym, ap, ◌∙◌, subst}
 use Rattle.std.specs.Prelude.{◌==◌, if◌then◌else◌, find}
 use Rattle.std.specs.Option.{option_map, option_map_or}
 use Rattle.std.proofs.lemmas.List.Folds.{find-append}
@@ -19,7 +19,7 @@ use Rattle.ccr_model.specs.Fates.{state_of, fate_of, fate}
 use Rattle.ccr_model.specs.Legal.{IsLegal}
 use Rattle.ccr_model.proofs.Stable.{firings-append}
 use Rattle.ccr_model.proofs.Allowing.{OneName-legal}
-use Rattle.ccr_model.proofs.Members.{Among, Among-right, Contains-among, found_among}
+use Rattle.ccr_model.proofs.Members.{Among, Among-right, Contains-among, found_among, found_some, kept_among}
 use Rattle.ccr_base.proofs.SameNames.{same_message-self}
 use Rattle.ccr_base.proofs.Booleans.{eq-self}
 use Rattle.ccr_base.proofs.Lists.{none_of_both, any_parts}
@@ -27,7 +27,6 @@ use Rattle.ccr_laws.specs.Occurring.{Occurs}
 use Rattle.ccr_laws.specs.OneFate.{IsHeld, IsTakenBy, HasFate, HasOneFate}
 use Rattle.ccr_model.proofs.FiringPlacements.{firing_with_placement}
 use Rattle.ccr_model.proofs.OneMoreEvent.{posts-append}
-use Rattle.ccr_model.proofs.QuietAllowsNone.{find_among}
 use Rattle.ccr_laws.proofs.HeldBefore.{untaken_of_held, untaken_before}
 use Rattle.ccr_laws.proofs.States.{is_in, only_in}
 
@@ -91,26 +90,12 @@ among_posts : (h past : List Event) (m : Msg) → Occurs h past (Post m) → Amo
 among_posts h past m stands = subst (λ g. Among m (posts g)) (sym stands.whole) (subst (Among m) (sym (posts-append past (Post m ∷ stands.more))) (Among-right m (posts past) (m ∷ posts stands.more) (inl refl)))
 
 found_name : (ms : List Msg) (m : Msg) → Among m ms → (x : Msg) × (find (λ (y : Msg). same_message y.id m.id) ms ≡ Some x)
-found_name ms m among = by (find (λ (y : Msg). same_message y.id m.id) ms) refl
-  where
-    by : (o : Option Msg) → find (λ (y : Msg). same_message y.id m.id) ms ≡ o → (x : Msg) × (find (λ (y : Msg). same_message y.id m.id) ms ≡ Some x)
-    by (Some x) is = (x, is)
-    by None is = absurd (find_among (λ (y : Msg). same_message y.id m.id) ms m among (same_message-self m.id) is)
-
--- a posted message that isn't taken is held
-Among-filter : (p : Msg → Bool) (ms : List Msg) (m : Msg) → Among m ms → p m ≡ true → Among m (filter p ms)
-Among-filter p [] m among passes = absurd among
-Among-filter p (x ∷ ms) m (inl same) passes = let here : p x ≡ true = ap p (sym same) ∙ passes in rw here (inl same)
-Among-filter p (x ∷ ms) m (inr more) passes = of_test (p x) (Among-filter p ms m more passes)
-  where
-    of_test : (b : Bool) → Among m (filter p ms) → Among m (if b then x ∷ filter p ms else filter p ms)
-    of_test true rest = inr rest
-    of_test false rest = rest
+found_name ms m is = found_some (λ (y : Msg). same_message y.id m.id) ms m is (same_message-self m.id)
 
 held_by_untaken : (h past : List Event) (m : Msg) → Occurs h past (Post m) → has_message (taken h) m.id ≡ false → IsHeld h m.id
 held_by_untaken h past m stands out =
-    let posted_so = Among-filter (λ (x : Msg). x.port == m.port) (posts h) m (among_posts h past m stands) (eq-self m.port) in
-    let held_so = Among-filter (λ (x : Msg). not (has_message (taken h) x.id)) (posted h m.port) m posted_so (ap not out) in
+    let posted_so = kept_among (λ (x : Msg). x.port == m.port) (posts h) m (among_posts h past m stands) (eq-self m.port) in
+    let held_so = kept_among (λ (x : Msg). not (has_message (taken h) x.id)) (posted h m.port) m posted_so (ap not out) in
     record { message = m; named = refl; among = Contains-among (held h m.port) m held_so }
 
 untaken_by_held : (h : List Event) (name : MsgId) → IsHeld h name → has_message (taken h) name ≡ false

@@ -1,9 +1,8 @@
 -- What each poster posted are the first lines of its script.
-use Rattle.std.proofs.Common.{◌≡◌, ◌∙◌, ℕ, zero, suc, ◌+◌, ◌≤◌, ◌⊎◌, inl, inr, Bool, true, false, ◌&&◌, List, [], ◌∷◌, ◌++◌, length, map, filter, take, Some, None, refl, ap, sym, subst, arith, append-nil}
+use Rattle.std.proofs.Common.{◌≡◌, ◌∙◌, ℕ, zero, suc, ◌+◌, ◌≤◌, ◌⊎◌, inl, inr, Bool, true, false, List, [], ◌∷◌, ◌++◌, length, map, filter, take, Some, None, refl, ap, sym, subst, arith, append-nil}
 use Rattle.std.specs.Prelude.{◌==◌, option_and_then}
 use Rattle.std.specs.List.{slice_get}
 use Rattle.std.specs.Option.{option_map_or}
-use Rattle.std.specs.Cmp.Lexicographic.{bytes_decides}
 use Rattle.std.proofs.lemmas.List.{map-append, length-append, take_all}
 use Rattle.std.proofs.lemmas.List.Elements.{filter-append}
 use Rattle.std.proofs.lemmas.Bool.Decides.{nat_tests}
@@ -11,8 +10,6 @@ use Rattle.ccr_base.specs.declared.names.MsgId.{MsgId}
 use Rattle.ccr_base.specs.declared.names.MsgId.TheVariants.{Script, Task}
 use Rattle.ccr_base.specs.declared.messages.Msg.{Msg}
 use Rattle.ccr_base.specs.declared.messages.Sent.{Sent}
-use Rattle.ccr_base.specs.Names.{same_lists}
-use Rattle.ccr_base.specs.Values.{same_value}
 use Rattle.ccr_wiring.specs.declared.parts.Parts.{Parts}
 use Rattle.ccr_wiring.specs.declared.parts.PosterPart.{PosterPart}
 use Rattle.ccr_model.specs.declared.history.Event.{Event}
@@ -23,20 +20,13 @@ use Rattle.ccr_model.specs.Legal.{IsAllowed, IsLegal, is_complete, are_whole_fro
 use Rattle.ccr_base.proofs.Booleans.{both, same_number}
 use Rattle.ccr_base.proofs.Options.{some_of, get-push}
 use Rattle.ccr_base.proofs.Lists.{take_more}
-use Rattle.ccr_base.proofs.SameNames.{same_numbers-is}
-use Rattle.ccr_model.proofs.PostNames.{along, refused_not}
+use Rattle.ccr_model.proofs.PostNames.{IsPost-test, along, refused_not}
 use Rattle.ccr_model.proofs.OneMoreEvent.{posts-push}
 use Rattle.ccr_laws.specs.Scripts.{posts_by, sent_of, FollowsScript}
 
--- a message that is the post has its port, its value and its causes
+-- a message that is the post was sent as that
 sent-post : (m : Msg) (s : Sent) → is_post m s ≡ true → sent_of m ≡ s
-sent-post m s is =
-    let parts = both ((m.port == s.port) && same_value m.value s.value) (same_lists (λ c d. c == d) m.causes s.causes) is in
-    let front = both (m.port == s.port) (same_value m.value s.value) parts.0 in
-    let port : m.port ≡ s.port = same_number m.port s.port front.0 in
-    let value : m.value ≡ s.value = (bytes_decides m.value s.value).0 front.1 in
-    let causes : m.causes ≡ s.causes = same_numbers-is m.causes s.causes parts.1 in
-    rw (port, value, causes) refl
+sent-post m s is = let post = IsPost-test m s is in rw (post.port, post.value, post.causes) refl
 
 -- so do all posters
 abbrev AllFollow : Parts → List Event → Type 0

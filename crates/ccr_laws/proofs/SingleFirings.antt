@@ -4,6 +4,7 @@ use Rattle.std.specs.Prelude.{◌==◌, if◌then◌else◌, IsSomeAnd}
 use Rattle.std.specs.List.{slice_get}
 use Rattle.std.specs.Option.{option_map_or}
 use Rattle.std.proofs.lemmas.Bool.Decides.{nat_tests}
+use Rattle.std.proofs.lemmas.List.{length-map}
 use Rattle.ccr_base.specs.declared.names.MsgId.{MsgId}
 use Rattle.ccr_base.specs.declared.names.TaskId.{TaskId}
 use Rattle.ccr_base.specs.declared.names.Spot.{Spot}
@@ -29,6 +30,7 @@ use Rattle.ccr_model.proofs.PostNames.{along}
 use Rattle.ccr_model.proofs.TakenOnce.{FireFacts-allowed}
 use Rattle.ccr_model.proofs.OneMoreEvent.{firings-push}
 use Rattle.ccr_base.proofs.Booleans.{both, same_number}
+use Rattle.ccr_base.proofs.Filters.{count_push}
 use Rattle.ccr_base.proofs.SameNames.{same_spot-is}
 use Rattle.ccr_laws.specs.Times.{times_fired, times_any_fired, times_torn_down}
 use Rattle.ccr_model.proofs.AllowedFirings.{BranchFacts-where, live_at, firings-other}
@@ -39,8 +41,10 @@ fired_on test h = fired_where (λ (f : Firing). test f.spot) h
 
 -- over plain lists: one more firing
 one_more : (test : Spot → Bool) (fs : List Firing) (f : Firing) → length (map (λ (g : Firing). g.task) (filter (λ (g : Firing). test g.spot) (fs ++ f ∷ []))) ≡ length (map (λ (g : Firing). g.task) (filter (λ (g : Firing). test g.spot) fs)) + (if test f.spot then 1 else 0)
-one_more test [] f = grind arith
-one_more test (g ∷ fs) f = grind (arith, one_more test fs f)
+one_more test fs f =
+    length-map (filter (λ (g : Firing). test g.spot) (fs ++ f ∷ [])) (λ (g : Firing). g.task)
+    ∙ (count_push (λ (g : Firing). test g.spot) fs f
+    ∙ ap (λ n. n + (if test f.spot then 1 else 0)) (sym (length-map (filter (λ (g : Firing). test g.spot) fs) (λ (g : Firing). g.task))))
 
 same_firings : (test : Spot → Bool) (h : List Event) (e : Event) → firing_of e ≡ [] → length (fired_on test h) ≤ 1 → length (fired_on test (h ++ e ∷ [])) ≤ 1
 same_firings test h e none few = rw (firings-other h e none) few

@@ -30,9 +30,6 @@ IsOrder p ps ss ds = filter p ss ++ filter p (without ps (ss ++ ds)) ≡ filter 
 IsOrder-start : (p : TaskId → Bool) (ps ss ds : List TaskId) (t : TaskId) → AreApart ps ss ds → (p t ≡ true → (rest : List TaskId) × (filter p (without ps (ss ++ ds)) ≡ t ∷ rest)) → IsOrder p ps ss ds → IsOrder p ps (ss ++ t ∷ []) ds
 IsOrder-start p ps ss ds t known oldest is = rw (lists_start p ps ss ds t, filter-append p ss (t ∷ [])) (of_test (p t) refl oldest)
   where
-    waits : List TaskId
-    waits = filter p (without ps (ss ++ ds))
-
     of_test : (b : Bool) → p t ≡ b → (p t ≡ true → (rest : List TaskId) × (filter p (without ps (ss ++ ds)) ≡ t ∷ rest)) → (filter p ss ++ (if b then t ∷ [] else [])) ++ without (filter p (without ps (ss ++ ds))) (t ∷ []) ≡ filter p (without ps ds)
     of_test false e oldest' =
         let out : has_task (filter p (without ps (ss ++ ds))) t ≡ false = rw (has_task-filter p (without ps (ss ++ ds)) t, e) (and_false _) in

@@ -19,25 +19,26 @@ use Rattle.ccr_model.specs.Tasks.{is_over}
 use Rattle.ccr_model.specs.Legal.{IsAllowed, IsLegal}
 use Rattle.ccr_model.proofs.Allowing.{OneName-legal}
 use Rattle.ccr_model.proofs.ExclusiveRootsAreAlone.{lasts_fired, ever_admitted_fired}
-use Rattle.ccr_base.proofs.Booleans.{or_left, or_right, refuted, no_both}
+use Rattle.ccr_base.proofs.Booleans.{refuted, no_both}
 use Rattle.ccr_model.proofs.Cutting.{AdmitFacts-allowed, CutFacts-legal, waits_unput}
 use Rattle.ccr_model.proofs.Ending.{AreEnded-legal}
 use Rattle.ccr_model.proofs.FiredTasks.{IsFired, fired_has, root_stays}
 use Rattle.ccr_model.proofs.AllowedFirings.{WaitingFacts-waiting, BranchFacts-where}
 use Rattle.ccr_model.proofs.OneMoreEvent.{posts-push, last-push, ever_admitted-push}
 use Rattle.ccr_model.proofs.Roots.{root_own, IsOneEach-legal}
-use Rattle.ccr_base.proofs.SameNames.{same_task-is, same_task-self, same_task-sym, has_task-append}
+use Rattle.ccr_base.proofs.SameNames.{same_task-is, same_task-sym, has_task-append}
 use Rattle.ccr_model.proofs.Suspending.{is_gone_on}
 use Rattle.ccr_model.proofs.TaskLists.{any_named, not_within}
 use Rattle.ccr_model.proofs.WhoWasPut.{ArePlaced-legal, started_fired}
+use Rattle.ccr_model.proofs.Members.{same_any}
+use Rattle.ccr_model.proofs.TasksLeft.{has_among}
 use Rattle.ccr_model.proofs.NoPosts.{no_posts}
 use Rattle.ccr_ledger.specs.Kept.{is_admitted}
 use Rattle.ccr_ledger.proofs.ScriptPosts.{counted-post}
 
 -- a test that agrees on the members
 any_on : (p q : TaskId → Bool) (ts : List TaskId) → ((u : TaskId) → has_task ts u ≡ true → p u ≡ q u) → list_any p ts ≡ list_any q ts
-any_on p q [] same = refl
-any_on p q (x ∷ ts) same = rw (same x (or_left (same_task x x) (has_task ts x) (same_task-self x)), any_on p q ts (λ u is. same u (or_right (same_task u x) (has_task ts u) is))) refl
+any_on p q ts same = same_any p q ts (λ u is. same u (has_among ts u is))
 
 module _ (w : Parts) (h : List Event) (legal : IsLegal w h) where
   -- a root is over by the last segments so far, or by those of the event

@@ -1,5 +1,5 @@
 -- Each event keeps how many tasks are on their way to each queue.
-use Rattle.std.proofs.Common.{◌≡◌, ℕ, ◌<◌, Bool, true, false, not, ◌&&◌, ◌||◌, List, [], ◌∷◌, ◌++◌, length, map, filter, Option, Some, None, refl, sym, ap, ◌∙◌, arith, subst, append_assoc, append-nil, length-set}
+use Rattle.std.proofs.Common.{◌≡◌, ℕ, ◌<◌, Bool, true, false, not, ◌&&◌, List, [], ◌∷◌, ◌++◌, length, map, filter, Option, Some, None, refl, sym, ap, ◌∙◌, arith, subst, append_assoc, append-nil, length-set}
 use Rattle.std.specs.Prelude.{◌==◌, if◌then◌else◌}
 use Rattle.std.specs.Option.{option_map_or}
 use Rattle.ccr_base.specs.declared.names.TaskId.{TaskId}
@@ -12,22 +12,22 @@ use Rattle.ccr_wiring.specs.Wirings.{Placement, placement, is_branch}
 use Rattle.ccr_model.specs.declared.history.Event.{Event}
 use Rattle.ccr_model.specs.declared.history.Event.TheVariants.{Post, Fire, Admit, Put, Start, End}
 use Rattle.ccr_model.specs.declared.history.EndHow.{EndHow}
-use Rattle.ccr_model.specs.Firings.{Firing, firing_of, started_by, dropped_by, cut}
+use Rattle.ccr_model.specs.Firings.{Firing, firing_of, firings, started_by, dropped_by, cut}
 use Rattle.ccr_model.specs.Tasks.{is_branch_where, fired_by, coming}
 use Rattle.ccr_model.specs.Live.{is_live_in}
 use Rattle.ccr_model.specs.Legal.{IsAllowed, IsLegal}
 use Rattle.ccr_model.specs.Consequences.{are_distinct_tasks}
 use Rattle.ccr_model.proofs.Allowing.{OneName-legal}
 use Rattle.ccr_base.proofs.Options.{some_of}
-use Rattle.ccr_base.proofs.SameNames.{same_task-is, same_task-self}
+use Rattle.ccr_base.proofs.SameNames.{same_task-self}
 use Rattle.ccr_base.proofs.Booleans.{not_true, both, or_left, or_right, refuted, no_both}
 use Rattle.ccr_model.proofs.TasksLeft.{filter_on}
-use Rattle.ccr_model.proofs.TaskLists.{of_more, not_more}
+use Rattle.ccr_model.proofs.TaskLists.{of_more, not_more, not_one}
 use Rattle.ccr_model.proofs.FiredTasks.{IsFired, fired_has}
 use Rattle.ccr_model.proofs.WhoWasPut.{ArePlaced-legal, StartFacts-allowed, StartFacts-queued, PutFacts-allowed, new_drop}
 use Rattle.ccr_model.proofs.AllowedFirings.{FiresSo-allowed, WaitingFacts, firings-other}
 use Rattle.ccr_model.proofs.Cutting.{CutFacts-legal, cut_by, waits_unput}
-use Rattle.ccr_model.proofs.TasksOnce.{cuts_distinct}
+use Rattle.ccr_model.proofs.TasksOnce.{cuts_distinct, fired_once, some_once}
 use Rattle.ccr_ledger.specs.declared.cards.Card.{Card}
 use Rattle.ccr_ledger.specs.declared.cards.TaskStage.TheVariants as stages
 use Rattle.ccr_ledger.specs.Books.{Books, card_at, number, more, less}
@@ -38,7 +38,7 @@ use Rattle.ccr_ledger.specs.Kept.{HasSizes, KeepsTasks}
 use Rattle.ccr_ledger.proofs.Counting.{more_if, less_if, number-more, number-less, left-less, left-more}
 use Rattle.ccr_ledger.proofs.GoneFromQueues.{gone, gone_fired, not_gone, queued_here, gone-other, gone-fire, gone-start, gone-drop}
 use Rattle.ccr_ledger.proofs.TaskCards.{CardFacts, CardFacts-fired, card_moved}
-use Rattle.ccr_ledger.proofs.FiredOnce.{fired_where-fire, fired_once}
+use Rattle.ccr_ledger.proofs.OneMoreFiring.{fired_where-fire}
 use Rattle.ccr_ledger.proofs.FiredBy.{fired_by-is, branch-is}
 
 -- the numbers count, where these are gone, those that branches fired for each queue
@@ -72,7 +72,7 @@ counted-less w h out ns t b legal size facts there counts q low =
     number-less (is_branch facts.card.spot) ns facts.card.queue q (omega (arith, low, size))
     ∙ (ap (λ n. less_if (is_branch facts.card.spot && (facts.card.queue == q)) n) (counts q low)
     ∙ (ap (λ is. less_if is (length (without (fired_by w (λ s. s.branch.queue == q) h) out))) same
-    ∙ sym (left-less (fired_by w (λ s. s.branch.queue == q) h) out t (fired_once w (λ (f : Firing). is_branch_where w (λ s. s.branch.queue == q) f.spot) h legal) there)))
+    ∙ sym (left-less (fired_by w (λ s. s.branch.queue == q) h) out t (some_once (λ (f : Firing). is_branch_where w (λ s. s.branch.queue == q) f.spot) (firings h) (fired_once w h legal)) there)))
   where
     same : is_branch facts.card.spot && (facts.card.queue == q) ≡ has_task (fired_by w (λ s. s.branch.queue == q) h) t
     same = rw (facts.spot, facts.queue) (sym (fired_by-is w (λ s. s.branch.queue == q) h t facts.firing legal facts.is_firing ∙ branch-is w (λ s. s.branch.queue == q) facts.firing.spot facts.placement facts.sits))
@@ -126,16 +126,9 @@ counted-cuts w h out (t ∷ cs) b legal size once apart cards counts =
     by_list w h ((out ++ t ∷ []) ++ cs) (out ++ t ∷ cs) (after_cuts (t ∷ cs) b).coming (sym (append_assoc out (t ∷ []) cs))
     (by_numbers w h ((out ++ t ∷ []) ++ cs) (after_cuts cs (cut_card t card.card b)).coming (after_cuts (t ∷ cs) b).coming (ap (λ d. (after_cuts cs d).coming) one)
     (counted-cuts w h (out ++ t ∷ []) cs (cut_card t card.card b) legal (length-without_coming card.card b.coming ∙ size) parts.1
-    (λ u is. not_more out (t ∷ []) u (apart u (or_right (same_task u t) (has_task cs u) is)) (not_this u is (not_true (has_task cs t) parts.0)))
+    (λ u is. not_more out (t ∷ []) u (apart u (or_right (same_task u t) (has_task cs u) is)) (not_one t u cs (not_true (has_task cs t) parts.0) is))
     (λ u is. card_moved w h stages.Cut t b (cut_card t card.card b) u refl (cards u (or_right (same_task u t) (has_task cs u) is)))
     (counted-less w h out b.coming t b legal size card (apart t among) counts)))
-  where
-    not_this : (u : TaskId) → has_task cs u ≡ true → has_task cs t ≡ false → has_task (t ∷ []) u ≡ false
-    not_this u is out_t = of_test (same_task u t) refl
-      where
-        of_test : (b : Bool) → same_task u t ≡ b → b || false ≡ false
-        of_test false e = refl
-        of_test true e = let one : u ≡ t = same_task-is u t e in absurd (no_both (subst (λ x. has_task cs x ≡ true) one is) out_t)
 
 length-cuts : (cs : List TaskId) (b : Books) → length (after_cuts cs b).coming ≡ length b.coming
 length-cuts [] b = refl

@@ -1,13 +1,13 @@
 -- Over plain lists and numbers: a count where one more stands there, or one less.
-use Rattle.std.proofs.Common.{◌≡◌, ℕ, suc, ◌+◌, ◌-◌, ◌<◌, Bool, true, false, not, ◌&&◌, ◌||◌, List, [], ◌∷◌, ◌++◌, length, filter, refl, ap, ◌∙◌, arith, subst, length-append, append-nil}
+use Rattle.std.proofs.Common.{◌≡◌, ℕ, suc, ◌+◌, ◌-◌, ◌<◌, Bool, true, false, not, ◌&&◌, ◌||◌, List, [], ◌∷◌, ◌++◌, length, filter, refl, ap, ◌∙◌, arith, subst, append-nil}
 use Rattle.std.specs.Prelude.{◌==◌, if◌then◌else◌}
 use Rattle.std.proofs.Math.Bool.{and-true}
-use Rattle.std.proofs.lemmas.List.Elements.{filter-append}
 use Rattle.ccr_base.specs.declared.names.TaskId.{TaskId}
 use Rattle.ccr_base.specs.Names.{same_task, has_task, without}
 use Rattle.ccr_model.specs.Consequences.{are_distinct_tasks}
 use Rattle.ccr_base.proofs.SameNames.{same_task-is, same_task-self, same_task-sym, has_task-append}
 use Rattle.ccr_base.proofs.Booleans.{both, not_true, or_left, or_right, and_false, same_number}
+use Rattle.ccr_base.proofs.Filters.{count_push}
 use Rattle.ccr_model.proofs.TasksLeft.{filter_on}
 use Rattle.ccr_ledger.specs.Books.{number, more, less}
 use Rattle.ccr_ledger.proofs.Tables.{number-set}
@@ -37,11 +37,11 @@ number-less true numbers index k low = number-set numbers index k (number number
     of_test false is = refl
 
 -- one more in a list
-pub length-more : (p : TaskId → Bool) (ts : List TaskId) (t : TaskId) → length (filter p (ts ++ t ∷ [])) ≡ more_if (p t) (length (filter p ts))
-length-more p ts t = rw (filter-append p ts (t ∷ []), length-append) (of_test (p t))
+pub length-more : {X : Type 0} (p : X → Bool) (xs : List X) (x : X) → length (filter p (xs ++ x ∷ [])) ≡ more_if (p x) (length (filter p xs))
+length-more p xs x = count_push p xs x ∙ of_test (p x)
   where
-    of_test : (b : Bool) → length (filter p ts) + length (if b then t ∷ [] else []) ≡ more_if b (length (filter p ts))
-    of_test true = omega arith
+    of_test : (b : Bool) → length (filter p xs) + (if b then 1 else 0) ≡ more_if b (length (filter p xs))
+    of_test true = refl
     of_test false = omega arith
 
 -- as many pass where the one that goes was none of them

@@ -1,47 +1,22 @@
 -- Taking the oldest messages that a slot, a gather or a site takes is taking those of the names that were chosen.
 use Rattle.std.proofs.Common.{◌≡◌, ℕ, zero, suc, ◌+◌, ◌-◌, ◌≤◌, Bool, true, false, not, ◌&&◌, ◌||◌, List, [], ◌∷◌, ◌++◌, length, take, drop, refl, sym, ap, ◌∙◌, arith}
-use Rattle.std.specs.Prelude.{filter, if◌then◌else◌}
+use Rattle.std.specs.Prelude.{if◌then◌else◌}
 use Rattle.ccr_base.specs.declared.names.MsgId.{MsgId}
 use Rattle.ccr_base.specs.declared.messages.Msg.{Msg}
 use Rattle.ccr_base.specs.declared.patterns.Pred.{Pred}
 use Rattle.ccr_base.specs.declared.patterns.Pred.TheVariants.{Any}
-use Rattle.ccr_base.specs.Selection.{holds, fitting}
+use Rattle.ccr_base.specs.Selection.{holds, fitting, without_first as without_so_many}
 use Rattle.ccr_base.specs.Names.{same_message, has_message}
 use Rattle.ccr_ledger.specs.Taken.{without_first, without_some, shared}
 use Rattle.ccr_ledger.proofs.Taking.{without-any}
 use Rattle.ccr_model.specs.Selection.{names_of, are_first, are_split}
 use Rattle.ccr_model.proofs.PostNames.{times}
 use Rattle.ccr_model.proofs.TakenOnce.{times-filter}
-use Rattle.ccr_base.proofs.SameNames.{same_message-self, same_message-sym, same_message-is}
+use Rattle.ccr_base.proofs.SameNames.{same_message-self, same_message-is}
 use Rattle.ccr_base.proofs.Booleans.{or_none}
-use Rattle.ccr_model.proofs.MessageNames.{any_fits, left_by, AreApart, tail_apart, none_left}
+use Rattle.ccr_base.proofs.FirstFitting.{without_first-none, step-some}
+use Rattle.ccr_model.proofs.MessageNames.{any_fits, left_by, AreApart, none_left, skipped, first-named}
 use Rattle.ccr_model.proofs.FirstNames.{first-names}
-
-zero_more : (n : ℕ) → suc n ≡ 0 → ⊥
-zero_more n is = omega arith
-
--- the first has a name of its own
-head_apart : (m : Msg) (ms : List Msg) → AreApart (m ∷ ms) → times m.id ms ≡ 0
-head_apart m ms apart = grind (arith, apart m.id, same_message-self m.id)
-
--- a name that stands nowhere takes nothing out
-skipped : (name : MsgId) (names : List MsgId) (ms : List Msg) → times name ms ≡ 0 → left_by (name ∷ names) ms ≡ left_by names ms
-skipped name names [] none = refl
-skipped name names (m ∷ ms) none = of_test (same_message m.id name) refl (λ out. skipped name names ms out)
-  where
-    of_test : (b : Bool) → same_message m.id name ≡ b → (times name ms ≡ 0 → left_by (name ∷ names) ms ≡ left_by names ms) → left_by (name ∷ names) (m ∷ ms) ≡ left_by names (m ∷ ms)
-    of_test true same rest = absurd (zero_more (length (filter (λ (o : Msg). same_message o.id name) ms)) (rw same at none))
-    of_test false same rest = rw (same, rest (rw same at none)) refl
-
--- nor is it a name of some of them
-not_named : (name : MsgId) (ms : List Msg) → times name ms ≡ 0 → has_message (names_of ms) name ≡ false
-not_named name [] none = refl
-not_named name (m ∷ ms) none = grind (arith, same_message-sym name m.id, not_named name ms)
-
-times-fitting : (name : MsgId) (n : ℕ) (pred : Pred) (ms : List Msg) → times name ms ≡ 0 → times name (take n (fitting pred ms)) ≡ 0
-times-fitting name zero pred ms none = refl
-times-fitting name (suc n) pred [] none = refl
-times-fitting name (suc n) pred (m ∷ ms) none = grind (arith, times-fitting name n pred ms, times-fitting name (suc n) pred ms)
 
 pub times-left : (name : MsgId) (names : List MsgId) (ms : List Msg) → times name (left_by names ms) ≤ times name ms
 times-left name names ms = times-filter name (λ (m : Msg). not (has_message names m.id)) ms
@@ -61,24 +36,24 @@ some_behind : (n : ℕ) (pred : Pred) (m : Msg) (ms : List Msg) → holds pred m
 some_behind zero pred m ms out = refl
 some_behind (suc n) pred m ms out = rw out (some_behind n pred m (without_first pred ms) out)
 
+-- taking the oldest so often is taking so many
+some_is : (n : ℕ) (pred : Pred) (ms : List Msg) → without_some n pred ms ≡ without_so_many n pred ms
+some_is n pred [] = some_of_none n pred
+some_is n pred (m ∷ ms) = of_test (holds pred m.value) refl n (λ k. some_is k pred ms)
+  where
+    of_test : (b : Bool) → holds pred m.value ≡ b → (n : ℕ) → ((k : ℕ) → without_some k pred ms ≡ without_so_many k pred ms) → without_some n pred (m ∷ ms) ≡ without_so_many n pred (m ∷ ms)
+    of_test false out n rest =
+        let last : m ∷ without_so_many n pred ms ≡ without_so_many n pred (m ∷ ms) = rw out refl in
+        some_behind n pred m ms out ∙ (ap (λ (l : List Msg). m ∷ l) (rest n) ∙ last)
+    of_test true fits zero rest = sym (without_first-none pred (m ∷ ms))
+    of_test true fits (suc n) rest =
+        let first : without_first pred (m ∷ ms) ≡ ms = rw fits refl in
+        let same : without_so_many n pred ms ≡ (if holds pred m.value then without_so_many n pred ms else m ∷ without_so_many (suc n) pred ms) = rw fits refl in
+        ap (without_some n pred) first ∙ (rest n ∙ (same ∙ sym (step-some n pred m ms)))
+
 -- taking so many of the oldest that satisfy the predicate is taking those of their names
 pub some-named : (n : ℕ) (pred : Pred) (ms : List Msg) → AreApart ms → without_some n pred ms ≡ left_by (names_of (take n (fitting pred ms))) ms
-some-named n pred [] apart = some_of_none n pred
-some-named n pred (m ∷ ms) apart = of_test (holds pred m.value) refl n (λ k. some-named k pred ms (tail_apart m ms apart)) (head_apart m ms apart)
-  where
-    of_test : (b : Bool) → holds pred m.value ≡ b → (n : ℕ) → ((k : ℕ) → without_some k pred ms ≡ left_by (names_of (take k (fitting pred ms))) ms) → times m.id ms ≡ 0
-        → without_some n pred (m ∷ ms) ≡ left_by (names_of (take n (fitting pred (m ∷ ms)))) (m ∷ ms)
-    of_test false out n rest own =
-        let away = not_named m.id (take n (fitting pred ms)) (times-fitting m.id n pred ms own) in
-        let same : fitting pred (m ∷ ms) ≡ fitting pred ms = rw out refl in
-        let step : m ∷ without_some n pred ms ≡ left_by (names_of (take n (fitting pred ms))) (m ∷ ms) = rw (away, rest n) refl in
-        some_behind n pred m ms out ∙ (step ∙ sym (ap (λ fs. left_by (names_of (take n fs)) (m ∷ ms)) same))
-    of_test true fits zero rest own = sym (none_left (m ∷ ms))
-    of_test true fits (suc n) rest own =
-        let same : fitting pred (m ∷ ms) ≡ m ∷ fitting pred ms = rw fits refl in
-        let first : without_first pred (m ∷ ms) ≡ ms = rw fits refl in
-        let step : left_by (m.id ∷ names_of (take n (fitting pred ms))) (m ∷ ms) ≡ left_by (m.id ∷ names_of (take n (fitting pred ms))) ms = rw (same_message-self m.id) refl in
-        ap (without_some n pred) first ∙ (rest n ∙ (sym (skipped m.id (names_of (take n (fitting pred ms))) ms own) ∙ (sym step ∙ sym (ap (λ fs. left_by (names_of (take (suc n) fs)) (m ∷ ms)) same))))
+some-named n pred ms apart = some_is n pred ms ∙ first-named n pred ms apart
 
 -- and of all the oldest
 pub oldest-named : (n : ℕ) (ms : List Msg) → AreApart ms → drop n ms ≡ left_by (names_of (take n ms)) ms

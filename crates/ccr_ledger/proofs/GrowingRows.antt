@@ -1,11 +1,12 @@
 -- Rows past the last, and lists that grow by one.
-use Rattle.std.proofs.Common.{◌≡◌, ℕ, zero, suc, ◌+◌, ◌≤◌, List, [], ◌∷◌, ◌++◌, length, take, Option, refl, sym, ap, arith, add-one, append-nil, option_to_list}
+use Rattle.std.proofs.Common.{◌≡◌, ℕ, zero, suc, ◌+◌, ◌≤◌, List, [], ◌∷◌, ◌++◌, length, take, Option, refl, sym, arith, append-nil, option_to_list}
 use Rattle.std.specs.List.{slice_get}
 use Rattle.ccr_base.specs.declared.names.TaskId.{TaskId}
 use Rattle.ccr_base.specs.declared.names.MsgId.{MsgId}
 use Rattle.ccr_base.specs.declared.messages.Msg.{Msg}
 use Rattle.ccr_base.specs.declared.patterns.Pred.{Pred}
 use Rattle.ccr_base.specs.Selection.{fitting}
+use Rattle.ccr_base.proofs.Lists.{take_next}
 use Rattle.ccr_ledger.specs.Rows.{row}
 use Rattle.ccr_ledger.specs.Taken.{shared}
 
@@ -32,11 +33,5 @@ pub shares-none : (rows : List (List Msg)) (n : ℕ) (names : List MsgId) → le
 shares-none rows n names past = rw (row-past rows n past) (none-shared names)
 
 -- one more of the first
-pub take-more : (n : ℕ) (xs : List TaskId) → take (n + 1) xs ≡ take n xs ++ option_to_list (slice_get xs n)
-take-more zero [] = refl
-take-more (suc n) [] = rw add-one refl
-take-more zero (x ∷ xs) = refl
-take-more (suc n) (x ∷ xs) = rw add-one (ap (λ (ys : List TaskId). x ∷ ys) (rw add-one at (take-more n xs)))
-
 pub taken-one : (n : ℕ) (xs tasks : List TaskId) (o : Option TaskId) → o ≡ slice_get xs n → tasks ≡ take n xs → tasks ++ option_to_list o ≡ take (n + 1) xs
-taken-one n xs tasks o is so = rw (is, so) (sym (take-more n xs))
+taken-one n xs tasks o is so = rw (is, so) (sym (take_next xs n))

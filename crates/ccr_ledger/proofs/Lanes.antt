@@ -1,10 +1,9 @@
 -- How lanes stay lanes while messages come and go.
 use Rattle.std.proofs.Common.{◌≡◌, ℕ, zero, suc, ◌+◌, ◌-◌, ◌<◌, ◌≤◌, Bool, true, false, not, ◌&&◌, List, [], ◌∷◌, ◌++◌, length, filter, map, take, drop, Option, Some, None, refl, sym, ap, ◌∙◌, arith, length-append, append-nil, append_assoc}
-use Rattle.std.specs.Bool.{Decides}
 use Rattle.std.specs.Prelude.{◌==◌, nat_lt, is_some, option_map, option_to_list, if◌then◌else◌}
 use Rattle.std.specs.List.{slice_get, list_all, remove}
 use Rattle.std.proofs.lemmas.List.Elements.{filter-append}
-use Rattle.std.proofs.lemmas.List.{set_at, length-set, take_all}
+use Rattle.std.proofs.lemmas.List.{set_at, length-set, take_all, take-append-le, take-take, length-take-le}
 use Rattle.std.proofs.lemmas.List.Edits.{length-remove}
 use Rattle.std.proofs.lemmas.Grind.{common_steps}
 use Rattle.std.proofs.lemmas.Bool.Decides.{nat_tests}
@@ -95,10 +94,7 @@ here-parts items (k ∷ ks) zero = refl
 here-parts items (k ∷ ks) (suc n) = grind (arith, common_steps, here-parts items ks n)
 
 take-of : (most n : ℕ) (ks rest : List ℕ) → most ≤ n → n ≤ length ks → take most (take n ks ++ rest) ≡ take most ks
-take-of zero n ks rest less within = refl
-take-of (suc most) zero ks rest less within = absurd (omega arith)
-take-of (suc most) (suc n) [] rest less within = absurd (omega arith)
-take-of (suc most) (suc n) (k ∷ ks) rest less within = ap (λ (js : List ℕ). k ∷ js) (take-of most n ks rest (omega arith) (omega arith))
+take-of most n ks rest less within = take-append-le most (take n ks) rest (let long = length-take-le n ks within in omega (arith, long, less)) ∙ take-take most n ks less
 
 -- the first indices of a lane, up to one, are of messages that are here
 pub record IsTidy (items : List (Option Msg)) (lane : IndexLaneState) (n : ℕ) : Type 0 where
@@ -298,23 +294,6 @@ none_taken pred items at = none_found 0 pred items at
 -- the index that was found, told of the items themselves
 pub found_in : (pred : Pred) (now items : List (Option Msg)) (found o : Option ℕ) → now ≡ items → found ≡ slice_get (fitting_indices 0 pred now) 0 → found ≡ o → slice_get (fitting_indices 0 pred items) 0 ≡ o
 found_in pred now items found o same index is = rw (← same, ← index) is
-
--- the lane that was looked at isn't of the predicate, so one that is stands behind it
-pub passed_over : (lanes : List IndexLaneState) (n k : ℕ) (here : IndexLaneState) (pred : Pred) (b : Bool) → here ≡ get_or lanes n here → Decides b (here.pred ≡ pred) → b ≡ false → n ≤ k → HasLane lanes k pred → n + 1 ≤ k
-passed_over lanes n k here pred b read decides other low has = of_test (n == k) refl
-  where
-    of_test : (same : Bool) → (n == k) ≡ same → n + 1 ≤ k
-    of_test true is =
-        let same : n ≡ k = grind (arith, nat_tests, is) in
-        let this : here ≡ has.0 = read ∙ get_or_from_slice_get lanes n has.0 here (rw same has.1) in
-        let yes : b ≡ true = decides.1 (rw this has.2) in
-        absurd (cc)
-    of_test false is = grind (arith, nat_tests, is, low)
-
-pub set_found : (lanes : List IndexLaneState) (n : ℕ) (lane now : IndexLaneState) → slice_get lanes n ≡ Some lane → slice_get (set lanes n now) n ≡ Some now
-set_found [] n lane now at = absurd (cc)
-set_found (l ∷ lanes) zero lane now at = refl
-set_found (l ∷ lanes) (suc n) lane now at = set_found lanes n lane now at
 
 -- one name more, where the index has one
 pub names-more : (items : List (Option Msg)) (ks : List ℕ) (n k : ℕ) → slice_get ks n ≡ Some k → names_at items (take (n + 1) ks) ≡ names_at items (take n ks) ++ option_to_list (name_at items k)

@@ -28,7 +28,7 @@ pub mod TaskRows
 pub mod TaskCards
 pub mod Queued
 pub mod RunningBy
-pub mod FiredOnce
+pub mod OneMoreFiring
 pub mod Waiting
 pub mod Counting
 pub mod FiredBy

@@ -22,6 +22,7 @@ use Rattle.ccr_ledger.specs.Posting.{counted}
 use Rattle.ccr_ledger.specs.Firing.{after_cut, after_cuts, after_taking, after_fire, resumed_card}
 use Rattle.ccr_ledger.specs.Events.{after_last, after_discard, after_dropped, after_stop, after_yield, after_end, after_event, is_yield}
 use Rattle.ccr_ledger.specs.Kept.{HasSizes, KeepsScriptPosts}
+use Rattle.ccr_ledger.proofs.Counting.{length-more}
 use Rattle.ccr_ledger.proofs.Tables.{number-set}
 
 -- the counts of posts alone
@@ -66,15 +67,6 @@ same-end t how c b = of_test (is_yield how)
     of_test true = refl
     of_test false = same-last c.root (after_stop t b)
 
--- one more message, of those that pass
-count-more : (test : Msg → Bool) (ms : List Msg) (m : Msg) → length (filter test (ms ++ m ∷ [])) ≡ (if test m then length (filter test ms) + 1 else length (filter test ms))
-count-more test [] m = of_test (test m)
-  where
-    of_test : (b : Bool) → length (if b then m ∷ [] else []) ≡ (if b then 0 + 1 else 0)
-    of_test true = refl
-    of_test false = refl
-count-more test (x ∷ ms) m = grind (arith, count-more test ms m)
-
 -- no post, and the counts as they were
 script_posts-other : (w : Parts) (h : List Event) (e : Event) (b c : Books) → post_of e ≡ [] → script_posts_of c ≡ script_posts_of b → KeepsScriptPosts w h b → KeepsScriptPosts w (h ++ e ∷ []) c
 script_posts-other w h e b c other same keeps = record {
@@ -87,7 +79,7 @@ script_posts-other w h e b c other same keeps = record {
 
 pub counted-post : (h : List Event) (m : Msg) (id : MsgId) (test : MsgId → Bool) → m.id ≡ id → length (filter (λ (o : Msg). test o.id) (posts (h ++ Post m ∷ []))) ≡ (if test id then length (filter (λ (o : Msg). test o.id) (posts h)) + 1 else length (filter (λ (o : Msg). test o.id) (posts h)))
 counted-post h m id test is =
-    ap (λ ms. length (filter (λ (o : Msg). test o.id) ms)) (posts-push h (Post m)) ∙ (count-more (λ (o : Msg). test o.id) (posts h) m ∙ ap (λ n. if test n then length (filter (λ (o : Msg). test o.id) (posts h)) + 1 else length (filter (λ (o : Msg). test o.id) (posts h))) is)
+    ap (λ ms. length (filter (λ (o : Msg). test o.id) ms)) (posts-push h (Post m)) ∙ (length-more (λ (o : Msg). test o.id) (posts h) m ∙ ap (λ n. if test n then length (filter (λ (o : Msg). test o.id) (posts h)) + 1 else length (filter (λ (o : Msg). test o.id) (posts h))) is)
 
 script_posts-post : (w : Parts) (h : List Event) (m : Msg) (id : MsgId) (b : Books) → m.id ≡ id → HasSizes w b → KeepsScriptPosts w h b → KeepsScriptPosts w (h ++ Post m ∷ []) (counted id b)
 script_posts-post w h m (Script actor index) b is sizes keeps = record {

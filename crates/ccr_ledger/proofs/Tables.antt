@@ -1,5 +1,5 @@
 -- Over plain rows, counts and cards: what stands there after one change.
-use Rattle.std.proofs.Common.{◌≡◌, ℕ, zero, suc, ◌<◌, Bool, true, false, List, [], ◌∷◌, length, Some, None, refl, ap, ◌∙◌, arith, length-set}
+use Rattle.std.proofs.Common.{◌≡◌, ℕ, zero, suc, ◌<◌, Bool, true, false, List, [], ◌∷◌, length, Some, None, refl, ap, ◌∙◌, arith, length-set, sym}
 use Rattle.std.specs.Prelude.{◌==◌, if◌then◌else◌, option_map, slice_set, cond}
 use Rattle.std.specs.Map.{set_value}
 use Rattle.std.proofs.lemmas.Bool.Decides.{nat_tests}
@@ -9,30 +9,30 @@ use Rattle.ccr_ledger.specs.Rows.{row, with_row}
 use Rattle.ccr_base.proofs.SameNames.{same_task-is, same_task-self, same_task-sym}
 use Rattle.ccr_ledger.specs.declared.cards.Card.{Card}
 use Rattle.ccr_ledger.specs.Books.{number, flag, card_at, changed}
+use Rattle.std.specs.Option.{option_map_or}
+use Rattle.std.specs.List.{slice_get}
+use Rattle.ccr_base.proofs.Booleans.{differ}
+use Rattle.ccr_base.proofs.Options.{get-set_other}
 
 pub length-with_row : {T : Type 0} (rows : List (List T)) (n : ℕ) (items : List T) → length (with_row rows n items) ≡ length rows
 length-with_row rows n items = length-set rows n items
 
+-- what stands at an index, or else the default, where another one is put
+set_there : {X : Type 0} (default : X) (xs : List X) (n k : ℕ) (x : X) → k < length xs → option_map_or (λ (y : X). y) (slice_get (slice_set xs n x) k) default ≡ (if n == k then x else option_map_or (λ (y : X). y) (slice_get xs k) default)
+set_there default [] n k x low = absurd (omega arith)
+set_there default (y ∷ xs) zero zero x low = refl
+set_there default (y ∷ xs) zero (suc k) x low = grind (arith, nat_tests)
+set_there default (y ∷ xs) (suc n) zero x low = grind (arith, nat_tests)
+set_there default (y ∷ xs) (suc n) (suc k) x low = set_there default xs n k x (omega arith) ∙ grind (arith, nat_tests)
+
 pub row-with_row : {T : Type 0} (rows : List (List T)) (n k : ℕ) (items : List T) → k < length rows → row (with_row rows n items) k ≡ (if n == k then items else row rows k)
-row-with_row [] n k items low = absurd (omega arith)
-row-with_row (r ∷ rows) zero zero items low = refl
-row-with_row (r ∷ rows) zero (suc k) items low = grind (arith, nat_tests)
-row-with_row (r ∷ rows) (suc n) zero items low = grind (arith, nat_tests)
-row-with_row (r ∷ rows) (suc n) (suc k) items low = row-with_row rows n k items (omega arith) ∙ grind (arith, nat_tests)
+row-with_row = set_there []
 
 pub number-set : (numbers : List ℕ) (n k count : ℕ) → k < length numbers → number (slice_set numbers n count) k ≡ (if n == k then count else number numbers k)
-number-set [] n k count low = absurd (omega arith)
-number-set (c ∷ numbers) zero zero count low = refl
-number-set (c ∷ numbers) zero (suc k) count low = grind (arith, nat_tests)
-number-set (c ∷ numbers) (suc n) zero count low = grind (arith, nat_tests)
-number-set (c ∷ numbers) (suc n) (suc k) count low = number-set numbers n k count (omega arith) ∙ grind (arith, nat_tests)
+number-set = set_there 0
 
 pub flag-set : (flags : List Bool) (n k : ℕ) (up : Bool) → k < length flags → flag (slice_set flags n up) k ≡ (if n == k then up else flag flags k)
-flag-set [] n k up low = absurd (omega arith)
-flag-set (c ∷ flags) zero zero up low = refl
-flag-set (c ∷ flags) zero (suc k) up low = grind (arith, nat_tests)
-flag-set (c ∷ flags) (suc n) zero up low = grind (arith, nat_tests)
-flag-set (c ∷ flags) (suc n) (suc k) up low = flag-set flags n k up (omega arith) ∙ grind (arith, nat_tests)
+flag-set = set_there false
 
 -- a changed card is found changed, the others as they were
 pub card-changed : (change : Card → Card) (cards : List (TaskId × Card)) (t u : TaskId) → card_at (changed change t cards) u ≡ (if same_task t u then option_map change (card_at cards u) else card_at cards u)
@@ -72,8 +72,4 @@ unwritten change (e ∷ cards) t at = of_test (same_task t e.0) at (unwritten ch
 
 -- a write to one row leaves the others
 pub row-other : {X : Type 0} (rows : List (List X)) (n k : ℕ) (items : List X) → (n == k) ≡ false → row (with_row rows n items) k ≡ row rows k
-row-other [] n k items other = refl
-row-other (r ∷ rows) zero zero items other = absurd (cc)
-row-other (r ∷ rows) zero (suc k) items other = refl
-row-other (r ∷ rows) (suc n) zero items other = refl
-row-other (r ∷ rows) (suc n) (suc k) items other = row-other rows n k items (grind (arith, nat_tests, other))
+row-other rows n k items other = ap (λ o. option_map_or (λ ys. ys) o []) (get-set_other rows n items k (λ e. differ n k other (sym e)))

@@ -1,6 +1,6 @@
 -- The messages that a firing takes out of the ports are those that it names.
-use Rattle.std.proofs.Common.{◌≡◌, ℕ, suc, ◌+◌, ◌-◌, ◌<◌, ◌≤◌, Bool, true, false, not, ◌&&◌, ◌||◌, List, [], ◌∷◌, ◌++◌, length, take, drop, filter, Some, inl, inr, refl, sym, ap, ◌∙◌, arith, subst}
-use Rattle.std.specs.Prelude.{◌==◌, if◌then◌else◌}
+use Rattle.std.proofs.Common.{◌≡◌, ℕ, suc, ◌+◌, ◌-◌, ◌<◌, ◌≤◌, true, false, not, List, [], ◌∷◌, ◌++◌, length, take, drop, Some, inl, inr, refl, sym, ap, ◌∙◌, arith, subst}
+use Rattle.std.specs.Prelude.{◌==◌}
 use Rattle.std.specs.List.{slice_get}
 use Rattle.ccr_base.specs.declared.names.MsgId.{MsgId}
 use Rattle.ccr_base.specs.declared.messages.Msg.{Msg}
@@ -18,12 +18,12 @@ use Rattle.ccr_model.specs.declared.history.Event.{Event}
 use Rattle.ccr_model.specs.Posts.{posts, taken, held, messages_named}
 use Rattle.ccr_model.specs.Selection.{names_of, selection_of_slots, are_first, are_split, are_oldest, is_selection_of, is_selection}
 use Rattle.ccr_model.specs.Legal.{IsLegal}
-use Rattle.ccr_base.proofs.Booleans.{both, either, not_true, same_number, eq_turned}
+use Rattle.ccr_base.proofs.Booleans.{both, not_true, same_number, eq_turned}
 use Rattle.ccr_model.proofs.Members.{Among, Among-either, Among-kept, Among-take}
 use Rattle.ccr_base.proofs.Options.{some_of}
 use Rattle.ccr_base.specs.Lists.{has_number, are_apart}
 use Rattle.ccr_model.proofs.PostNames.{times, posted_once}
-use Rattle.ccr_base.proofs.SameNames.{same_message-is, same_lists-is}
+use Rattle.ccr_base.proofs.SameNames.{same_message-is, same_lists-is, names_of-append}
 use Rattle.ccr_base.proofs.Lists.{none_at}
 use Rattle.ccr_model.proofs.TakenOnce.{joined_some, selection_some, times-filter, times-two}
 use Rattle.ccr_model.proofs.MessageNames.{named-found, of_held}
@@ -34,6 +34,7 @@ use Rattle.ccr_ledger.specs.Books.{Books}
 use Rattle.ccr_ledger.specs.Taking.{take_slot, take_slots, take_pattern, take_site}
 use Rattle.ccr_ledger.specs.Kept.{HasSizes, KeepsPorts}
 use Rattle.ccr_ledger.proofs.Tables.{row-other}
+use Rattle.ccr_ledger.proofs.Fitting.{split-names}
 
 -- a port that stands there isn't one that doesn't
 apart_at : (ports : List ℕ) (index port other : ℕ) → slice_get ports index ≡ Some port → has_number ports other ≡ false → (other == port) ≡ false
@@ -61,38 +62,9 @@ selection-within (slot ∷ slots) held_at all xs within is m among =
       | inr there ↦ selection-within slots held_at all parts.1 within parts.3 m there
     ]
 
-first-has : (ms : List Msg) (n : MsgId) (names : List MsgId) → are_first ms (n ∷ names) ≡ true → 0 < times n ms
-first-has [] n names is = absurd (cc)
-first-has (m ∷ ms) n names is = rw (both (same_message m.id n) (are_first ms names) is).0 (omega arith)
-
 -- the names of a split: of the first messages as many as are shared, then of the second
 split-named : (a b : List Msg) (names : List MsgId) → are_split a b names ≡ true → ((name : MsgId) → times name a + times name b ≤ 1) → names_of (take (shared a names) a ++ take (length names - shared a names) b) ≡ names
-split-named a b [] is apart = refl
-split-named [] b (n ∷ names) is apart =
-    let all : length (n ∷ names) ≡ length (n ∷ names) - 0 = omega arith in
-    subst (λ k. names_of (take k b) ≡ n ∷ names) all (sym (first-names b (n ∷ names) is))
-split-named (m ∷ a) b (n ∷ names) is apart = of_test (same_message m.id n) refl is (split-named a b names)
-  where
-    of_test : (same : Bool) → same_message m.id n ≡ same → are_first b (n ∷ names) || (same && are_split a b names) ≡ true
-        → (are_split a b names ≡ true → ((name : MsgId) → times name a + times name b ≤ 1) → names_of (take (shared a names) a ++ take (length names - shared a names) b) ≡ names)
-        → names_of (take (if same then suc (shared a names) else 0) (m ∷ a) ++ take (length (n ∷ names) - (if same then suc (shared a names) else 0)) b) ≡ n ∷ names
-    of_test true e at rest =
-        let here : times n (m ∷ a) ≡ suc (times n a) = rw e refl in
-        let split = either (are_first b (n ∷ names)) (are_split a b names) at (are_split a b names ≡ true) (λ first. absurd (omega (arith, here, apart n, first-has b n names first))) (λ both_so. both_so) in
-        let fewer : length (n ∷ names) - suc (shared a names) ≡ length names - shared a names = omega arith in
-        let behind = rest split (λ name. omega (arith, apart name, times-more name)) in
-        ap (λ k. m.id ∷ names_of (take (shared a names) a ++ take k b)) fewer ∙ (ap (λ (id : MsgId). id ∷ names_of (take (shared a names) a ++ take (length names - shared a names) b)) (same_message-is m.id n e) ∙ ap (λ (ns : List MsgId). n ∷ ns) behind)
-      where
-        times-more : (name : MsgId) → times name a ≤ times name (m ∷ a)
-        times-more name = of_same (same_message m.id name)
-          where
-            of_same : (s : Bool) → times name a ≤ length (if s then m ∷ filter (λ (o : Msg). same_message o.id name) a else filter (λ (o : Msg). same_message o.id name) a)
-            of_same true = omega arith
-            of_same false = omega arith
-    of_test false e at rest =
-        let first = either (are_first b (n ∷ names)) false at (are_first b (n ∷ names) ≡ true) (λ f. f) (λ never. absurd (cc)) in
-        let all : length (n ∷ names) ≡ length (n ∷ names) - 0 = omega arith in
-        subst (λ k. names_of (take k b) ≡ n ∷ names) all (sym (first-names b (n ∷ names) first))
+split-named a b names is apart = names_of-append (take (shared a names) a) (take (length names - shared a names) b) ∙ sym (split-names a b names apart is)
 
 module _ (w : Parts) (valid : IsValid w) (h : List Event) (legal : IsLegal w h) (b : Books) (sizes : HasSizes w b) (ports : KeepsPorts w h b) where
   held-posted : (port : ℕ) (m : Msg) → Among m (held h port) → Among m (posts h)

@@ -9,9 +9,9 @@ use Rattle.ccr_base.specs.declared.patterns.Pred.{Pred}
 use Rattle.ccr_base.specs.declared.patterns.Pred.TheVariants.{Any}
 use Rattle.ccr_base.specs.Selection.{holds, fitting}
 use Rattle.ccr_base.specs.Names.{same_message}
+use Rattle.ccr_base.proofs.Lists.{take_next}
 use Rattle.ccr_ledger.specs.Lanes.{present}
 use Rattle.ccr_ledger.proofs.Lanes.{IsFirst}
-use Rattle.ccr_ledger.proofs.GrowingRows.{take-none}
 use Rattle.ccr_ledger.specs.Taken.{without_first, without_some, shared, same_front}
 use Rattle.ccr_model.proofs.MessageNames.{any_fits}
 
@@ -43,17 +43,17 @@ pub fitting-some : (n : ℕ) (pred : Pred) (ms : List Msg) → fitting pred (wit
 fitting-some zero pred ms = refl
 fitting-some (suc n) pred ms = fitting-some n pred (without_first pred ms) ∙ (ap (drop n) (fitting-first pred ms) ∙ drop-drop n (fitting pred ms))
 
--- one more of the first
-take-more : (n : ℕ) (xs : List Msg) → take (n + 1) xs ≡ take n xs ++ option_to_list (slice_get (drop n xs) 0)
-take-more zero [] = refl
-take-more (suc n) [] = take-none (suc n + 1)
-take-more zero (x ∷ xs) = refl
-take-more (suc n) (x ∷ xs) = rw add-one (ap (λ (ys : List Msg). x ∷ ys) (rw add-one at (take-more n xs)))
+-- the first behind so many is the next
+next-first : (n : ℕ) (xs : List Msg) → slice_get (drop n xs) 0 ≡ slice_get xs n
+next-first zero xs = refl
+next-first (suc n) [] = refl
+next-first (suc n) (x ∷ xs) = next-first n xs
 
+-- one more of the first
 taken-more : (n : ℕ) (pred : Pred) (ms before : List Msg) (o : Option Msg) → o ≡ slice_get (fitting pred (without_some n pred ms)) 0 → (before ++ take n (fitting pred ms)) ++ option_to_list o ≡ before ++ take (n + 1) (fitting pred ms)
 taken-more n pred ms before o is =
-    let one : o ≡ slice_get (drop n (fitting pred ms)) 0 = is ∙ ap (λ fs. slice_get fs 0) (fitting-some n pred ms) in
-    rw (one, take-more n (fitting pred ms)) (append_assoc before (take n (fitting pred ms)) (option_to_list (slice_get (drop n (fitting pred ms)) 0)))
+    let one : o ≡ slice_get (fitting pred ms) n = is ∙ ap (λ fs. slice_get fs 0) (fitting-some n pred ms) ∙ next-first n (fitting pred ms) in
+    rw (one, take_next (fitting pred ms) n) (append_assoc before (take n (fitting pred ms)) (option_to_list (slice_get (fitting pred ms) n)))
 
 some_fits : (pred : Pred) (ms : List Msg) (m : Msg) → slice_get (fitting pred ms) 0 ≡ Some m → 0 < length ms
 some_fits pred [] m is = absurd (cc)

@@ -93,9 +93,6 @@ named_one : (test : Firing → Bool) (fs : List Firing) (t : TaskId) → has_tas
 named_one test [] t among = absurd (cc)
 named_one test (g ∷ fs) t among = of_test (test g) refl among (named_one test fs t)
   where
-    Here : Type 0
-    Here = (f : Firing) × Among f (g ∷ fs) × (test f ≡ true) × (f.task ≡ t)
-
     of_rest : (f : Firing) × Among f fs × (test f ≡ true) × (f.task ≡ t) → (f : Firing) × Among f (g ∷ fs) × (test f ≡ true) × (f.task ≡ t)
     of_rest r = (r.0, inr r.1, r.2, r.3)
 

@@ -37,7 +37,7 @@ use Rattle.ccr_model.specs.Order.{post_from, script_post, fire_at, fire_from, ne
 use Rattle.ccr_model.proofs.PostNames.{along, refused_not}
 use Rattle.ccr_model.proofs.Stable.{firing_named-append, firings-append}
 use Rattle.ccr_base.proofs.Options.{some_of, IfSome-or, some-below, none-above}
-use Rattle.ccr_model.proofs.Members.{Among, Among-last, find_passes}
+use Rattle.ccr_model.proofs.Members.{Among, Among-last, find_passes, Among-kept, Among-filter, Among-mapped}
 use Rattle.ccr_model.proofs.FirstNames.{length-names_of}
 use Rattle.ccr_base.proofs.SameNames.{same_task-self, same_message-self, same_value-self, same_lists-self}
 use Rattle.ccr_base.proofs.Booleans.{both, or_right, eq-self}
@@ -205,21 +205,13 @@ OneName-legal w h legal = along w OneName (OneName_kept w) (λ f among. absurd a
 
 -- Admit
 pub filter_head : {X : Type 0} (p : X → Bool) (xs : List X) (x : X) (rest : List X) → filter p xs ≡ x ∷ rest → Among x xs
-filter_head p [] x rest is = absurd (cc)
-filter_head p (y ∷ xs) x rest is = of_test (p y) refl is (filter_head p xs x rest)
-  where
-    of_test : (b : Bool) → p y ≡ b → (if b then y ∷ filter p xs else filter p xs) ≡ x ∷ rest → (filter p xs ≡ x ∷ rest → Among x xs) → Among x (y ∷ xs)
-    of_test true e at more = inl (cc)
-    of_test false e at more = inr (more at)
+filter_head p xs x rest is = Among-kept p xs x (subst (Among x) (sym is) (inl refl))
 
 fired_where_some : (p : Firing → Bool) (fs : List Firing) (t : TaskId) → Among t (map (λ (f : Firing). f.task) (filter p fs)) → (f : Firing) × Among f fs × (p f ≡ true) × (f.task ≡ t)
-fired_where_some p [] t among = absurd among
-fired_where_some p (g ∷ fs) t among = of_test (p g) refl among (fired_where_some p fs t)
-  where
-    of_test : (b : Bool) → p g ≡ b → Among t (map (λ (f : Firing). f.task) (if b then g ∷ filter p fs else filter p fs)) → (Among t (map (λ (f : Firing). f.task) (filter p fs)) → (f : Firing) × Among f fs × (p f ≡ true) × (f.task ≡ t)) → (f : Firing) × Among f (g ∷ fs) × (p f ≡ true) × (f.task ≡ t)
-    of_test true e (inl same) rest = (g, inl refl, e, sym same)
-    of_test true e (inr more) rest = let r = rest more in (r.0, inr r.1, r.2, r.3)
-    of_test false e more rest = let r = rest more in (r.0, inr r.1, r.2, r.3)
+fired_where_some p fs t among =
+    let made = Among-mapped (λ (f : Firing). f.task) (filter p fs) t among in
+    let kept = Among-filter p fs made.0 made.1 in
+    (made.0, kept.0, kept.1, made.2)
 
 -- the oldest waiting task has its placement there
 waiting_placement : (w : Parts) (h : List Event) (n : ℕ) (t : TaskId) (ts : List TaskId) → OneName h → waiting w h n ≡ t ∷ ts → (s : Placement) × (placement_of w h t ≡ Some s) × (s.domain ≡ n)
@@ -253,12 +245,7 @@ admits_allowed w h n (x ∷ xs) one = IfSome-or (IsAllowed w h) _ _ (admit_allow
 
 -- Start
 pub head_passes : (p : TaskId → Bool) (xs : List TaskId) (x : TaskId) (rest : List TaskId) → filter p xs ≡ x ∷ rest → p x ≡ true
-head_passes p [] x rest is = absurd (cc)
-head_passes p (y ∷ xs) x rest is = of_test (p y) refl is (head_passes p xs x rest)
-  where
-    of_test : (b : Bool) → p y ≡ b → (if b then y ∷ filter p xs else filter p xs) ≡ x ∷ rest → (filter p xs ≡ x ∷ rest → p x ≡ true) → p x ≡ true
-    of_test true e at more = let same : y ≡ x = cc in rw (← same) e
-    of_test false e at more = more at
+head_passes p xs x rest is = (Among-filter p xs x (subst (Among x) (sym is) (inl refl))).1
 
 -- nobody runs, so the actor runs nothing
 none_by : (a : ℕ) (h : List Event) (gone : List TaskId) → without (started h) gone ≡ [] → without (flat_map (started_as a) h) gone ≡ []

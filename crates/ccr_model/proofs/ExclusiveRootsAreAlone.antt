@@ -31,6 +31,9 @@ use Rattle.ccr_base.proofs.Options.{some_of, some_then, head_rest}
 use Rattle.ccr_base.proofs.SameNames.{same_task-is, same_task-self}
 use Rattle.ccr_base.proofs.Booleans.{both, or_left, or_right}
 use Rattle.ccr_model.proofs.FiredTasks.{IsFired, AreFired, IsFired-append, none_fired, placement_fired, placement_stays, root_stays}
+use Rattle.ccr_model.proofs.Members.{some_among, any_among}
+use Rattle.ccr_model.proofs.TasksLeft.{has_among}
+use Rattle.ccr_base.proofs.Lists.{any_left}
 
 AreFired-append : (h es : List Event) (ts : List TaskId) → AreFired h ts → AreFired (h ++ es) ts
 AreFired-append h es ts all t is = IsFired-append h es t (all t is)
@@ -96,14 +99,9 @@ let_fired w h (Start t a) allowed = none_fired h
 let_fired w h (End t how) allowed = none_fired h
 
 any_more : (p q : TaskId → Bool) (ts us : List TaskId) → ((t : TaskId) → has_task ts t ≡ true → p t ≡ q t) → list_any p ts ≡ true → list_any q (ts ++ us) ≡ true
-any_more p q [] us same is = absurd (cc)
-any_more p q (x ∷ ts) us same is =
-    let here = same x (or_left (same_task x x) (has_task ts x) (same_task-self x)) in
-    of_test (p x) refl is (any_more p q ts us (λ t among. same t (or_right (same_task t x) (has_task ts t) among)))
-  where
-    of_test : (b : Bool) → p x ≡ b → b || list_any p ts ≡ true → (list_any p ts ≡ true → list_any q (ts ++ us) ≡ true) → list_any q ((x ∷ ts) ++ us) ≡ true
-    of_test true e at rest = let yes_here : q x ≡ true = sym (same x (or_left (same_task x x) (has_task ts x) (same_task-self x))) ∙ e in or_left (q x) (list_any q (ts ++ us)) yes_here
-    of_test false e at rest = or_right (q x) (list_any q (ts ++ us)) (rest at)
+any_more p q ts us same is =
+    let found = some_among p ts is in
+    any_left q ts us (any_among q ts found.0 found.1 (sym (same found.0 (has_among ts found.0 found.1)) ∙ found.2))
 
 -- who is over stays over
 pub over_stays : (h : List Event) (e : Event) (t : TaskId) → AreFired h (last_segments h) → is_over h t ≡ true → is_over (h ++ e ∷ []) t ≡ true

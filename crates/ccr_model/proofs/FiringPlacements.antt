@@ -20,13 +20,17 @@ use Rattle.ccr_model.proofs.LegalParts.{along_legal}
 use Rattle.ccr_base.proofs.Options.{some_of}
 use Rattle.ccr_model.proofs.Members.{Among, Among-either}
 
+-- a site with a port is of a branch with a placement
+pub site_placement : (w : Parts) (b k port : ℕ) → site_port w b k ≡ Some port → (r : Placement) × (placement w b ≡ Some r)
+site_placement w b k port is = of_option (placement w b) refl is
+  where
+    of_option : (o : Option Placement) → placement w b ≡ o → option_map_or (λ (r : Placement). slice_get (awaited (actions_of w r.branch.handler)) k) o None ≡ Some port → (r : Placement) × (placement w b ≡ Some r)
+    of_option None at found = absurd (cc)
+    of_option (Some r) at found = (r, at)
+
 spot_with_placement : (w : Parts) (h : List Event) (s : Spot) (ms : List MsgId) → is_live w h s ≡ true → is_selection w h s ms ≡ true → (r : Placement) × (placement w (branch_of s) ≡ Some r)
 spot_with_placement w h (Branch b) ms live is = let found = some_of _ (placement w b) live in (found.0, found.1)
-spot_with_placement w h (Site b k) ms live is = let found = some_of (λ port. are_oldest (held h port) ms) (site_port w b k) is in of_option (placement w b) refl found.0 found.1
-  where
-    of_option : (o : Option Placement) → placement w b ≡ o → (port : ℕ) → option_map_or (λ (r : Placement). slice_get (awaited (actions_of w r.branch.handler)) k) o None ≡ Some port → (r : Placement) × (placement w b ≡ Some r)
-    of_option None at port found = absurd (cc)
-    of_option (Some r) at port found = (r, at)
+spot_with_placement w h (Site b k) ms live is = let found = some_of (λ port. are_oldest (held h port) ms) (site_port w b k) is in site_placement w b k found.0 found.1
 
 new_placement : (w : Parts) (h : List Event) (e : Event) (f : Firing) → IsAllowed w h e → Among f (firing_of e) → (r : Placement) × (placement w (branch_of f.spot) ≡ Some r)
 new_placement w h (Fire t s ms cs) f allowed (inl same) =

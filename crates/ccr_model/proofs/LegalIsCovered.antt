@@ -13,25 +13,21 @@ use Rattle.ccr_model.specs.declared.history.EndHow.{EndHow}
 use Rattle.ccr_model.specs.declared.history.EndHow.TheVariants as ends
 use Rattle.ccr_base.specs.Names.{same_task, has_task, without}
 use Rattle.ccr_model.specs.Posts.{posts, posts_of_task, posts_of_tasks}
-use Rattle.ccr_wiring.specs.Wirings.{Placement}
-use Rattle.ccr_model.specs.Firings.{started, started_by, ended, put, dropped}
-use Rattle.ccr_model.specs.TaskData.{placement_of}
-use Rattle.ccr_model.specs.Tasks.{queued, is_for_queue, running, has_post_left, unfinished, count_unfinished}
-use Rattle.ccr_model.specs.Rules.{is_first, is_oldest_queued, may_end, may_shed, is_shed}
+use Rattle.ccr_model.specs.Firings.{started, started_by, ended}
+use Rattle.ccr_model.specs.Tasks.{running, has_post_left, unfinished, count_unfinished}
+use Rattle.ccr_model.specs.Rules.{may_end, may_shed, is_shed}
 use Rattle.ccr_model.specs.Consequences.{are_distinct_tasks}
 use Rattle.ccr_model.specs.Legal.{IsAllowed, IsLegal, has_shed}
 use Rattle.ccr_model.specs.Counts.{is_shed as is_shed_end}
 use Rattle.ccr_model.proofs.PostNames.{along, refused_not}
-use Rattle.ccr_model.proofs.QuietAllowsNone.{first_is}
 use Rattle.ccr_model.proofs.TaskSteps.{running-post, running-fire, running-admit, running-put, running-end}
 use Rattle.ccr_model.proofs.Stable.{play_of-append}
-use Rattle.ccr_model.proofs.Allowing.{head_passes}
 use Rattle.ccr_model.proofs.OneMoreEvent.{started-push}
-use Rattle.ccr_base.proofs.Options.{some_of, head_rest}
 use Rattle.ccr_base.proofs.SameNames.{same_task-is, same_task-self, same_task-sym}
 use Rattle.ccr_model.proofs.TasksLeft.{of_without, filter_on, distinct-filter, distinct-push}
-use Rattle.ccr_base.proofs.Booleans.{not_true, both, or_left, or_right}
+use Rattle.ccr_base.proofs.Booleans.{not_true, both, or_left, or_right, refuted, no_both}
 use Rattle.ccr_model.proofs.FiredTasks.{IsFired, AreFired, IsFired-append, placement_fired}
+use Rattle.ccr_model.proofs.WhoWasPut.{StartFacts-allowed, StartFacts-queued}
 
 -- what is known of the tasks that started
 pub record AreStarted (h : List Event) : Type 0 where
@@ -39,11 +35,7 @@ pub record AreStarted (h : List Event) : Type 0 where
   pub once : are_distinct_tasks (started h) ≡ true
 
 pub no_member : (ts : List TaskId) (x u : TaskId) → has_task ts x ≡ false → has_task ts u ≡ true → same_task x u ≡ false
-no_member ts x u out within = of_test (same_task x u) refl
-  where
-    of_test : (b : Bool) → same_task x u ≡ b → same_task x u ≡ false
-    of_test false e = e
-    of_test true e = let same : x ≡ u = same_task-is x u e in absurd (cc (rw same at out, within))
+no_member ts x u out within = refuted (same_task x u) (λ e. no_both (subst (λ t. has_task ts t ≡ true) (sym (same_task-is x u e)) within) out)
 
 -- a test that changes at one member alone
 one_changes : (p q : TaskId → Bool) (t : TaskId) (ts : List TaskId) → are_distinct_tasks ts ≡ true → ((u : TaskId) → has_task ts u ≡ true → same_task t u ≡ false → p u ≡ q u) → length (filter p ts) ≤ length (filter q ts) + 1
@@ -77,32 +69,22 @@ none_goes p t (x ∷ ts) fails = of_test (same_task x t) refl (none_goes p t ts 
     of_test false e rest = grind (arith, e, rest)
 
 -- who started, by one more event
-queued_head : (w : Parts) (h : List Event) (t : TaskId) → is_oldest_queued w h t ≡ true → IsFired h t × (has_task (started h) t ≡ false)
-queued_head w h t is =
-    let found = some_of (λ (s : Placement). is_first (queued w h s.branch.queue) t) (placement_of w h t) is in
-    let q = found.0.branch.queue in
-    let head = head_rest (queued w h q) t (first_is (queued w h q) t found.2) in
-    let test : TaskId → Bool = λ u. not (has_task (started h ++ dropped h) u) && is_for_queue w h q u in
-    let passes = head_passes test (put h) t head.0 (sym (filter_twice (is_for_queue w h q) (λ u. not (has_task (started h ++ dropped h) u)) (put h)) ∙ head.1) in
-    let parts = both (not (has_task (started h ++ dropped h) t)) (is_for_queue w h q t) passes in
-    (placement_fired w h t found.0 found.1, grind (arith, common_steps, parts.0))
-
 AreStarted_other : (h : List Event) (e : Event) → started_by e ≡ [] → AreStarted h → AreStarted (h ++ e ∷ [])
 AreStarted_other h e none known =
     let same : started (h ++ e ∷ []) ≡ started h = rw (started-push, none, append-nil) refl in
     record { named = λ t is. IsFired-append h (e ∷ []) t (known.named t (rw same at is)); once = rw same known.once }
 
-AreStarted_start : (w : Parts) (h : List Event) (t : TaskId) (a : ℕ) → is_oldest_queued w h t ≡ true → AreStarted h → AreStarted (h ++ Start t a ∷ [])
-AreStarted_start w h t a is known =
-    let found = queued_head w h t is in
-    record { named = λ u among. old_or_new u (same_task u t) refl (rw started-push at among) found.0; once = rw started-push (distinct-push (started h) t known.once found.1) }
+AreStarted_start : (w : Parts) (h : List Event) (t : TaskId) (a : ℕ) → IsAllowed w h (Start t a) → AreStarted h → AreStarted (h ++ Start t a ∷ [])
+AreStarted_start w h t a allowed known =
+    let facts = StartFacts-allowed w h t a allowed in
+    record { named = λ u among. old_or_new u (same_task u t) refl (rw started-push at among) (placement_fired w h t facts.placement facts.is_placement); once = rw started-push (distinct-push (started h) t known.once (StartFacts-queued w h t facts).not_started) }
   where
     old_or_new : (u : TaskId) (b : Bool) → same_task u t ≡ b → has_task (started h ++ t ∷ []) u ≡ true → IsFired h t → IsFired (h ++ Start t a ∷ []) u
     old_or_new u true e among found = let same : t ≡ u = sym (same_task-is u t e) in IsFired-append h (Start t a ∷ []) u (subst (IsFired h) same found)
     old_or_new u false e among found = let old : has_task (started h) u ≡ true = grind (arith, common_steps, e, among) in IsFired-append h (Start t a ∷ []) u (known.named u old)
 
 pub AreStarted_kept : (w : Parts) (h : List Event) (e : Event) → AreStarted h → IsAllowed w h e → AreStarted (h ++ e ∷ [])
-AreStarted_kept w h (Start t a) known allowed = AreStarted_start w h t a (refused_not (is_oldest_queued w h t) _ _ allowed).0 known
+AreStarted_kept w h (Start t a) known allowed = AreStarted_start w h t a allowed known
 AreStarted_kept w h (Post m) known allowed = AreStarted_other h (Post m) refl known
 AreStarted_kept w h (Fire t s ms cs) known allowed = AreStarted_other h (Fire t s ms cs) refl known
 AreStarted_kept w h (Admit t) known allowed = AreStarted_other h (Admit t) refl known

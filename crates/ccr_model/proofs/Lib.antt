@@ -4,6 +4,7 @@ mod WorkedTasks
 mod WorkedDomains
 mod WrongEvents
 pub mod Members
+pub mod Pigeons
 pub mod SameLists
 pub mod TasksLeft
 pub mod OneMoreEvent
@@ -41,4 +42,5 @@ pub mod RunningTasks
 pub mod WaitingTasks
 pub mod ShedEnds
 pub mod PostCounts
+pub mod PostedMessages
 pub mod NoPosts

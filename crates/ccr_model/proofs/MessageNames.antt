@@ -1,12 +1,13 @@
 -- Over lists of messages and of their names: who stands there is counted, and no port holds two messages of one name.
-use Rattle.std.proofs.Common.{◌≡◌, ℕ, ◌<◌, ◌≤◌, Bool, true, false, not, ◌||◌, List, [], ◌∷◌, ◌++◌, inl, inr, length, filter, Some, refl, sym, ap, ◌∙◌, arith}
+use Rattle.std.proofs.Common.{◌≡◌, ℕ, zero, suc, ◌<◌, ◌≤◌, Bool, true, false, not, ◌||◌, List, [], ◌∷◌, ◌++◌, inl, inr, length, filter, take, Some, refl, sym, ap, ◌∙◌, arith}
 use Rattle.std.specs.Prelude.{◌==◌, if◌then◌else◌, find}
 use Rattle.std.proofs.lemmas.Grind.{common_steps}
 use Rattle.std.specs.List.{filter_map}
 use Rattle.ccr_base.specs.declared.names.MsgId.{MsgId}
 use Rattle.ccr_base.specs.declared.messages.Msg.{Msg}
+use Rattle.ccr_base.specs.declared.patterns.Pred.{Pred}
 use Rattle.ccr_base.specs.declared.patterns.Pred.TheVariants.{Any}
-use Rattle.ccr_base.specs.Selection.{fitting}
+use Rattle.ccr_base.specs.Selection.{holds, fitting, without_first}
 use Rattle.ccr_base.specs.Names.{same_message, has_message, names_of}
 use Rattle.ccr_wiring.specs.declared.parts.Parts.{Parts}
 use Rattle.ccr_model.specs.declared.history.Event.{Event}
@@ -14,8 +15,9 @@ use Rattle.ccr_model.specs.Legal.{IsLegal}
 use Rattle.ccr_model.specs.Posts.{posts, posted, taken, held}
 use Rattle.ccr_model.proofs.Members.{Among, Among-filter, some_kept}
 use Rattle.ccr_model.proofs.PostNames.{times, posted_once}
-use Rattle.ccr_base.proofs.SameNames.{same_message-self}
+use Rattle.ccr_base.proofs.SameNames.{same_message-self, same_message-sym}
 use Rattle.ccr_base.proofs.Booleans.{same_number}
+use Rattle.ccr_base.proofs.FirstFitting.{without_first-none, step-some}
 use Rattle.ccr_model.proofs.TakenOnce.{times_named, times-filter}
 
 -- the messages without those of these names
@@ -79,6 +81,49 @@ AreApart ms = (name : MsgId) → times name ms ≤ 1
 
 pub tail_apart : (m : Msg) (ms : List Msg) → AreApart (m ∷ ms) → AreApart ms
 tail_apart m ms apart name = omega (arith, apart name, times_back m ms name)
+
+zero_more : (n : ℕ) → suc n ≡ 0 → ⊥
+zero_more n is = omega arith
+
+-- the first has a name of its own
+pub head_apart : (m : Msg) (ms : List Msg) → AreApart (m ∷ ms) → times m.id ms ≡ 0
+head_apart m ms apart = grind (arith, apart m.id, same_message-self m.id)
+
+-- a name that stands nowhere takes nothing out
+pub skipped : (name : MsgId) (names : List MsgId) (ms : List Msg) → times name ms ≡ 0 → left_by (name ∷ names) ms ≡ left_by names ms
+skipped name names [] none = refl
+skipped name names (m ∷ ms) none = of_test (same_message m.id name) refl (λ out. skipped name names ms out)
+  where
+    of_test : (b : Bool) → same_message m.id name ≡ b → (times name ms ≡ 0 → left_by (name ∷ names) ms ≡ left_by names ms) → left_by (name ∷ names) (m ∷ ms) ≡ left_by names (m ∷ ms)
+    of_test true same rest = absurd (zero_more (length (filter (λ (o : Msg). same_message o.id name) ms)) (rw same at none))
+    of_test false same rest = rw (same, rest (rw same at none)) refl
+
+-- nor is it a name of some of them
+pub not_named : (name : MsgId) (ms : List Msg) → times name ms ≡ 0 → has_message (names_of ms) name ≡ false
+not_named name [] none = refl
+not_named name (m ∷ ms) none = grind (arith, same_message-sym name m.id, not_named name ms)
+
+times-fitting : (name : MsgId) (n : ℕ) (pred : Pred) (ms : List Msg) → times name ms ≡ 0 → times name (take n (fitting pred ms)) ≡ 0
+times-fitting name zero pred ms none = refl
+times-fitting name (suc n) pred [] none = refl
+times-fitting name (suc n) pred (m ∷ ms) none = grind (arith, times-fitting name n pred ms, times-fitting name (suc n) pred ms)
+
+-- where no name stands twice, to take out the first that satisfy a predicate is to leave out their names
+pub first-named : (n : ℕ) (pred : Pred) (ms : List Msg) → AreApart ms → without_first n pred ms ≡ left_by (names_of (take n (fitting pred ms))) ms
+first-named zero pred ms once = without_first-none pred ms ∙ sym (none_left ms)
+first-named (suc n) pred [] once = refl
+first-named (suc n) pred (m ∷ ms) once = step-some n pred m ms ∙ by (holds pred m.value) (first-named n pred ms (tail_apart m ms once)) (first-named (suc n) pred ms (tail_apart m ms once))
+  where
+    by : (b : Bool) → without_first n pred ms ≡ left_by (names_of (take n (fitting pred ms))) ms → without_first (suc n) pred ms ≡ left_by (names_of (take (suc n) (fitting pred ms))) ms
+        → (if b then without_first n pred ms else m ∷ without_first (suc n) pred ms) ≡ left_by (names_of (take (suc n) (if b then m ∷ fitting pred ms else fitting pred ms))) (m ∷ ms)
+    by true one other = one ∙ sym (skipped m.id (names_of (take n (fitting pred ms))) ms (head_apart m ms once)) ∙ sym (dropped (same_message m.id m.id) refl)
+      where
+        dropped : (b : Bool) → same_message m.id m.id ≡ b → (if not (b || has_message (names_of (take n (fitting pred ms))) m.id) then m ∷ left_by (m.id ∷ names_of (take n (fitting pred ms))) ms else left_by (m.id ∷ names_of (take n (fitting pred ms))) ms) ≡ left_by (m.id ∷ names_of (take n (fitting pred ms))) ms
+        dropped true e = refl
+        dropped false e = let self = same_message-self m.id in absurd (cc)
+    by false one other =
+        let away : has_message (names_of (take (suc n) (fitting pred ms))) m.id ≡ false = not_named m.id (take (suc n) (fitting pred ms)) (times-fitting m.id (suc n) pred ms (head_apart m ms once)) in
+        rw (away, other) refl
 
 -- some of the messages, found by their names
 pub named-found : (all ms : List Msg) → ((name : MsgId) → times name all ≤ 1) → ((m : Msg) → Among m ms → Among m all) → filter_map (λ name. find (λ (o : Msg). same_message o.id name) all) (names_of ms) ≡ ms

@@ -1,21 +1,24 @@
 -- No two posts of a legal history have one name.
-use Rattle.std.proofs.Common.{◌≡◌, ℕ, ◌+◌, ◌<◌, ◌≤◌, Bool, true, false, List, [], ◌∷◌, ◌++◌, length, filter, Option, None, refl, arith, subst, append_assoc, append-nil}
+use Rattle.std.proofs.Common.{◌≡◌, ℕ, ◌+◌, ◌<◌, ◌≤◌, Bool, true, false, ◌&&◌, List, [], ◌∷◌, ◌++◌, length, filter, Option, None, refl, arith, subst, append_assoc, append-nil}
 use Rattle.std.specs.Prelude.{if◌then◌else◌, ◌==◌}
 use Rattle.std.proofs.lemmas.Grind.{common_steps}
 use Rattle.std.proofs.lemmas.Bool.Decides.{nat_tests}
 use Rattle.ccr_base.specs.declared.names.MsgId.{MsgId}
 use Rattle.ccr_base.specs.declared.names.MsgId.TheVariants.{Script, Task}
 use Rattle.ccr_base.specs.declared.messages.Msg.{Msg}
+use Rattle.ccr_base.specs.declared.messages.Sent.{Sent}
 use Rattle.ccr_wiring.specs.declared.parts.Parts.{Parts}
 use Rattle.ccr_model.specs.declared.history.Event.{Event}
 use Rattle.ccr_model.specs.declared.history.Event.TheVariants.{Post, Fire, Admit, Put, Start, End}
-use Rattle.ccr_base.specs.Names.{same_message}
+use Rattle.ccr_base.specs.Names.{same_message, same_lists}
+use Rattle.ccr_base.specs.Values.{same_value}
 use Rattle.ccr_model.specs.Posts.{posts, is_script_of, is_message_of, made_by_poster}
 use Rattle.ccr_model.specs.declared.rule.Rule.{Rule}
-use Rattle.ccr_model.specs.Rules.{refusal_of_post, refused}
+use Rattle.ccr_model.specs.Rules.{refusal_of_post, refused, is_post}
 use Rattle.ccr_model.specs.Legal.{IsAllowed, IsLegal, IsLegalAfter}
 use Rattle.ccr_model.proofs.OneMoreEvent.{posts-push}
-use Rattle.ccr_base.proofs.SameNames.{same_message-is}
+use Rattle.ccr_base.proofs.Booleans.{both, same_number}
+use Rattle.ccr_base.proofs.SameNames.{same_message-is, same_numbers-is, same_values}
 use Rattle.ccr_base.specs.declared.names.TaskId.{TaskId}
 
 -- what the empty history has and each allowed event keeps, each legal history has
@@ -47,6 +50,18 @@ pub record AreNamed (ms : List Msg) : Type 0 where
 pub refused_not : (b : Bool) (rule : Rule) (o : Option Rule) → refused b rule o ≡ None → (b ≡ true) × (o ≡ None)
 refused_not true rule o is = (refl, is)
 refused_not false rule o is = absurd (cc)
+
+-- a message that is the post has its port, its value and its causes
+pub record IsPost (m : Msg) (x : Sent) : Type 0 where
+  pub port : m.port ≡ x.port
+  pub value : m.value ≡ x.value
+  pub causes : m.causes ≡ x.causes
+
+pub IsPost-test : (m : Msg) (x : Sent) → is_post m x ≡ true → IsPost m x
+IsPost-test m x is =
+    let parts = both ((m.port == x.port) && same_value m.value x.value) (same_lists (λ c d. c == d) m.causes x.causes) is in
+    let first = both (m.port == x.port) (same_value m.value x.value) parts.0 in
+    record { port = same_number m.port x.port first.0; value = same_values m.value x.value first.1; causes = same_numbers-is m.causes x.causes parts.1 }
 
 -- an allowed post has the index that comes next
 place_next : (w : Parts) (h : List Event) (m : Msg) (name : MsgId) → refusal_of_post w h m name ≡ None → place_of name ≡ sent_by name (posts h)

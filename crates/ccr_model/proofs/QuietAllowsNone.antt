@@ -32,8 +32,8 @@ use Rattle.ccr_model.specs.Order.{first, post_from, script_post, fire_at, fire_f
 use Rattle.ccr_wiring.specs.Valid.{HasQueues}
 use Rattle.ccr_model.proofs.PostNames.{refused_not}
 use Rattle.ccr_model.proofs.PlacementDomains.{placement-within}
-use Rattle.ccr_base.proofs.Options.{some_of, some_then, some_map, none_or, none_map, no_head}
-use Rattle.ccr_model.proofs.Members.{Among, Among-left, Among-right}
+use Rattle.ccr_base.proofs.Options.{some_of, some_then, some_map, none_or, none_map, no_head, no_some}
+use Rattle.ccr_model.proofs.Members.{Among, Among-left, Among-right, found_among, find_passes, Among-map, found_some}
 use Rattle.ccr_base.proofs.SameNames.{same_task-is}
 use Rattle.ccr_base.proofs.Booleans.{both}
 
@@ -182,21 +182,12 @@ no_admit w h t none allowed =
 
 -- Put
 pub found_fired : (fs : List Firing) (t : TaskId) (f : Firing) → find (λ (g : Firing). same_task g.task t) fs ≡ Some f → Among t (map (λ (g : Firing). g.task) fs)
-found_fired [] t f is = absurd (cc)
-found_fired (g ∷ fs) t f is = of_test (same_task g.task t) refl is (found_fired fs t f)
-  where
-    of_test : (b : Bool) → same_task g.task t ≡ b → (if b then Some g else find (λ (g : Firing). same_task g.task t) fs) ≡ Some f → (find (λ (g : Firing). same_task g.task t) fs ≡ Some f → Among t (map (λ (g : Firing). g.task) fs)) → Among t (map (λ (g : Firing). g.task) (g ∷ fs))
-    of_test true e at rest = inl (sym (same_task-is g.task t e))
-    of_test false e at rest = inr (rest at)
+found_fired fs t f is =
+    let one = λ (g : Firing). same_task g.task t in
+    subst (λ u. Among u (map (λ (g : Firing). g.task) fs)) (same_task-is f.task t (find_passes one fs f is)) (Among-map (λ (g : Firing). g.task) fs f (found_among one fs f is))
 
 pub find_among : {X : Type 0} (p : X → Bool) (xs : List X) (x : X) → Among x xs → p x ≡ true → find p xs ≡ None → ⊥
-find_among p [] x among is none = absurd among
-find_among p (y ∷ xs) x (inl e) is none = grind (arith, ap p e, is)
-find_among p (y ∷ xs) x (inr among) is none = of_test (p y) none (find_among p xs x among is)
-  where
-    of_test : (b : Bool) → (if b then Some y else find p xs) ≡ None → (find p xs ≡ None → ⊥) → ⊥
-    of_test true gone rest = absurd (cc)
-    of_test false gone rest = rest gone
+find_among p xs x is passes none = let found = found_some p xs x is passes in no_some (find p xs) found.0 none found.1
 
 no_put : (w : Parts) (h : List Event) (t : TaskId) (d : Option TaskId) → put_first w h ≡ None → IsAllowed w h (Put t d) → ⊥
 no_put w h t d none allowed =

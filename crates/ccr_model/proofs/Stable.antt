@@ -1,6 +1,6 @@
 -- What is said of a task that fired stays so, whatever events come.
-use Rattle.std.proofs.Common.{◌≡◌, ℕ, zero, suc, Bool, true, false, List, [], ◌∷◌, ◌++◌, length, drop, filter, Option, Some, None, refl, arith, ap, ◌∙◌}
-use Rattle.std.specs.Prelude.{if◌then◌else◌, find}
+use Rattle.std.proofs.Common.{◌≡◌, ℕ, zero, suc, Bool, true, false, List, [], ◌∷◌, ◌++◌, length, drop, filter, Option, Some, None, refl, arith, ap, ◌∙◌, subst, take}
+use Rattle.std.specs.Prelude.{find}
 use Rattle.std.specs.List.{slice_get}
 use Rattle.std.specs.Option.{option_map_or, option_map, option_or}
 use Rattle.std.proofs.lemmas.Grind.{common_steps, flat_map-append}
@@ -16,6 +16,8 @@ use Rattle.ccr_wiring.specs.Wirings.{branch_of, segment_of, next_site}
 use Rattle.ccr_model.specs.Firings.{Firing, firings, fired, firing_named, yielded, fired_at, firing_of, spot_of}
 use Rattle.ccr_model.specs.Sites.{before, yields_at, resumed, root_at}
 use Rattle.ccr_model.specs.TaskData.{load_at, load_after, no_load, with_messages, messages_of, play_of}
+use Rattle.ccr_model.proofs.Members.{Among, Among-filter, Among-right, Among-at}
+use Rattle.std.proofs.lemmas.List.{take-append-drop}
 
 -- who is found is found among more
 pub find_stays : {X : Type 0} (p : X → Bool) (xs ys : List X) (x : X) → find p xs ≡ Some x → find p (xs ++ ys) ≡ Some x
@@ -50,13 +52,7 @@ firing_named-before (Start v a ∷ h) t u f is = firing_named-before h t u f is
 firing_named-before (End v how ∷ h) t u f is = firing_named-before h t u f is
 
 passes : {X : Type 0} (p : X → Bool) (xs : List X) (n : ℕ) (x : X) → slice_get (drop n (filter p xs)) 0 ≡ Some x → p x ≡ true
-passes p [] n x is = grind (arith, common_steps, is)
-passes p (y ∷ xs) zero x is = first_passes (p y) refl is (passes p xs zero x)
-  where
-    first_passes : (b : Bool) → p y ≡ b → slice_get (if b then y ∷ filter p xs else filter p xs) 0 ≡ Some x → (slice_get (filter p xs) 0 ≡ Some x → p x ≡ true) → p x ≡ true
-    first_passes true e at rest = grind (arith, e, at)
-    first_passes false e at rest = rest at
-passes p (y ∷ xs) (suc n) x is = grind (arith, passes p xs n x, passes p xs (suc n) x)
+passes p xs n x is = (Among-filter p xs x (subst (Among x) (take-append-drop n (filter p xs)) (Among-right x (take n (filter p xs)) (drop n (filter p xs)) (Among-at (drop n (filter p xs)) 0 x is)))).1
 
 some_firing : (h : List Event) (u : TaskId) (site : Spot) → yields_at h site u ≡ true → (f : Firing) × (firing_named h u ≡ Some f)
 some_firing h u site is = of_option (firing_named h u) refl is

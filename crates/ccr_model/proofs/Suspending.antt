@@ -66,6 +66,31 @@ not_empty : (ts : List TaskId) → not (is_none_of ts) ≡ true → (t : TaskId)
 not_empty [] is = absurd (cc)
 not_empty (t ∷ ts) is = (t, ts, refl)
 
+-- who is suspended at a site yielded there, fired at the branch and segment before it
+pub record SuspendedFacts (h : List Event) (b k : ℕ) (u : TaskId) : Type 0 where
+  pub yielded_so : has_task (yielded h) u ≡ true
+  pub firing : Firing
+  pub is_firing : firing_named h u ≡ Some firing
+  pub same_branch : branch_of firing.spot ≡ b
+  pub same_segment : segment_of firing.spot ≡ k
+
+pub SuspendedFacts-first : (h : List Event) (b k : ℕ) (u : TaskId) (others : List TaskId) → suspended h (Site b k) ≡ u ∷ others → SuspendedFacts h b k u
+SuspendedFacts-first h b k u others list =
+    let among : has_task (suspended h (Site b k)) u ≡ true = has_oldest (suspended h (Site b k)) others u list in
+    let yields = of_filter (yields_at h (Site b k)) (yielded h) u (has_task-drop (length (fired_at h (Site b k))) (yielded_at h (Site b k)) u among) in
+    let at = some_of (λ spot. same_spot (next_site spot) (Site b k)) (spot_of h u) yields.1 in
+    let fired = some_map (λ (f : Firing). f.spot) (firing_named h u) at.0 at.1 in
+    let there : Some fired.0.spot ≡ Some at.0 = sym (ap (λ o. option_map (λ (f : Firing). f.spot) o) fired.1) ∙ at.1 in
+    let same : at.0 ≡ fired.0.spot = cc in
+    let numbers = both (branch_of fired.0.spot == b) (segment_of fired.0.spot == k) (subst (λ s. same_spot (next_site s) (Site b k) ≡ true) same at.2) in
+    record {
+      yielded_so = yields.0;
+      firing = fired.0;
+      is_firing = fired.1;
+      same_branch = same_number (branch_of fired.0.spot) b numbers.0;
+      same_segment = same_number (segment_of fired.0.spot) k numbers.1;
+    }
+
 -- what an allowed firing at a site says
 pub record ResumeFacts (h : List Event) (b k : ℕ) : Type 0 where
   pub resumes : TaskId
@@ -79,24 +104,17 @@ pub record ResumeFacts (h : List Event) (b k : ℕ) : Type 0 where
 
 pub ResumeFacts-allowed : (w : Parts) (h : List Event) (t : TaskId) (b k : ℕ) (ms : List MsgId) (cs : List TaskId) → IsAllowed w h (Fire t (Site b k) ms cs) → ResumeFacts h b k
 ResumeFacts-allowed w h t b k ms cs allowed =
-    let live = (FiresSo-allowed w h t (Site b k) ms cs allowed).live in
-    let head = not_empty (suspended h (Site b k)) live in
-    let among : has_task (suspended h (Site b k)) head.0 ≡ true = has_oldest (suspended h (Site b k)) head.1 head.0 head.2 in
-    let yields = of_filter (yields_at h (Site b k)) (yielded h) head.0 (has_task-drop (length (fired_at h (Site b k))) (yielded_at h (Site b k)) head.0 among) in
-    let at = some_of (λ spot. same_spot (next_site spot) (Site b k)) (spot_of h head.0) yields.1 in
-    let fired = some_map (λ (f : Firing). f.spot) (firing_named h head.0) at.0 at.1 in
-    let there : Some fired.0.spot ≡ Some at.0 = sym (ap (λ o. option_map (λ (f : Firing). f.spot) o) fired.1) ∙ at.1 in
-    let same : at.0 ≡ fired.0.spot = cc in
-    let numbers = both (branch_of fired.0.spot == b) (segment_of fired.0.spot == k) (subst (λ s. same_spot (next_site s) (Site b k) ≡ true) same at.2) in
+    let head = not_empty (suspended h (Site b k)) (FiresSo-allowed w h t (Site b k) ms cs allowed).live in
+    let facts = SuspendedFacts-first h b k head.0 head.1 head.2 in
     record {
       resumes = head.0;
       others = head.1;
       is_first = head.2;
-      yielded_so = yields.0;
-      firing = fired.0;
-      is_firing = fired.1;
-      same_branch = same_number (branch_of fired.0.spot) b numbers.0;
-      same_segment = same_number (segment_of fired.0.spot) k numbers.1;
+      yielded_so = facts.yielded_so;
+      firing = facts.firing;
+      is_firing = facts.is_firing;
+      same_branch = facts.same_branch;
+      same_segment = facts.same_segment;
     }
 
 -- at each site at most as many firings as suspensions

@@ -1,6 +1,6 @@
 -- Over plain lists of tasks: who stands in a list, in part of it, and in two lists.
-use Rattle.std.proofs.Common.{◌≡◌, ℕ, zero, suc, ◌<◌, ◌≤◌, Bool, true, false, not, ◌||◌, List, [], ◌∷◌, ◌++◌, length, drop, filter, refl, sym, arith, ap, ◌∙◌, subst, Some, inl, inr, take, map}
-use Rattle.std.specs.List.{list_any, list_all, slice_get}
+use Rattle.std.proofs.Common.{◌≡◌, ℕ, zero, suc, ◌<◌, ◌≤◌, Bool, true, false, not, ◌||◌, List, [], ◌∷◌, ◌++◌, length, drop, filter, refl, sym, arith, ap, ◌∙◌, subst, Some, take, map}
+use Rattle.std.specs.List.{list_any, slice_get}
 use Rattle.std.proofs.lemmas.Grind.{common_steps}
 use Rattle.std.proofs.lemmas.Bool.Decides.{nat_tests}
 use Rattle.std.proofs.lemmas.List.{take-append-drop}
@@ -11,9 +11,9 @@ use Rattle.ccr_model.specs.Rules.{is_first}
 use Rattle.ccr_model.proofs.QuietAllowsNone.{first_is}
 use Rattle.ccr_base.proofs.Options.{head_rest, drop-next}
 use Rattle.ccr_base.proofs.SameNames.{same_task-is, same_task-self, has_task-append}
-use Rattle.ccr_model.proofs.TasksLeft.{has_task-filter}
+use Rattle.ccr_model.proofs.TasksLeft.{has_task-filter, has_among}
 use Rattle.ccr_model.specs.Live.{is_none_of}
-use Rattle.ccr_model.proofs.Members.{Among, index_of, Among-map}
+use Rattle.ccr_model.proofs.Members.{Among, Among-map, Among-mapped, some_among, filter_all}
 use Rattle.ccr_base.proofs.Booleans.{not_true, not_false, both, or_left, or_right, either, refuted, no_both}
 use Rattle.ccr_base.proofs.Lists.{any_left, any_right, none_of_both, any_parts, any_at}
 
@@ -27,22 +27,25 @@ to_without ts gone t is out = to_filter (λ u. not (has_task gone u)) ts t is (n
 pub without-append : (ts us gone : List TaskId) → without (ts ++ us) gone ≡ without ts gone ++ without us gone
 without-append ts us gone = grind (arith, common_steps)
 
--- a test that all pass
-pub filter_all : (p : TaskId → Bool) (ts : List TaskId) → ((u : TaskId) → has_task ts u ≡ true → p u ≡ true) → filter p ts ≡ ts
-filter_all p [] all = refl
-filter_all p (x ∷ ts) all = rw (all x (or_left (same_task x x) (has_task ts x) (same_task-self x)), filter_all p ts (λ u is. all u (or_right (same_task u x) (has_task ts u) is))) refl
-
 -- nobody goes
 pub without_none : (ts gone : List TaskId) → ((u : TaskId) → has_task ts u ≡ true → has_task gone u ≡ false) → without ts gone ≡ ts
-without_none ts gone apart = filter_all (λ u. not (has_task gone u)) ts (λ u is. not_false (has_task gone u) (apart u is))
+without_none ts gone apart = filter_all (λ u. not (has_task gone u)) ts (λ u is. not_false (has_task gone u) (apart u (has_among ts u is)))
+
+-- one of one
+pub of_one : (t u : TaskId) → has_task (t ∷ []) u ≡ true → u ≡ t
+of_one t u is = of_test (same_task u t) refl is
+  where
+    of_test : (b : Bool) → same_task u t ≡ b → b || false ≡ true → u ≡ t
+    of_test true e f = same_task-is u t e
+    of_test false e f = absurd (cc)
+
+-- not in a list of one
+pub not_one : (t u : TaskId) (ts : List TaskId) → has_task ts t ≡ false → has_task ts u ≡ true → has_task (t ∷ []) u ≡ false
+not_one t u ts out within = refuted (has_task (t ∷ []) u) (λ is. no_both (subst (λ x. has_task ts x ≡ true) (of_one t u is) within) out)
 
 -- one who isn't there goes
 pub without_other : (ts : List TaskId) (t : TaskId) → has_task ts t ≡ false → without ts (t ∷ []) ≡ ts
-without_other ts t out = without_none ts (t ∷ []) (λ u is. of_test u (same_task u t) refl is)
-  where
-    of_test : (u : TaskId) (b : Bool) → same_task u t ≡ b → has_task ts u ≡ true → same_task u t || false ≡ false
-    of_test u false e is = rw e refl
-    of_test u true e is = let one : u ≡ t = same_task-is u t e in absurd (cc)
+without_other ts t out = without_none ts (t ∷ []) (λ u is. not_one t u ts out is)
 
 -- the first of a list, and the others
 pub first_rest : (ts : List TaskId) (t : TaskId) → is_first ts t ≡ true → (rest : List TaskId) × (ts ≡ t ∷ rest)
@@ -71,18 +74,6 @@ among_right ts us t is = any_right (same_task t) ts us is
 pub not_more : (ts us : List TaskId) (t : TaskId) → has_task ts t ≡ false → has_task us t ≡ false → has_task (ts ++ us) t ≡ false
 not_more ts us t one other = none_of_both (same_task t) ts us one other
 
--- one of one
-pub of_one : (t u : TaskId) → has_task (t ∷ []) u ≡ true → u ≡ t
-of_one t u is = of_test (same_task u t) refl is
-  where
-    of_test : (b : Bool) → same_task u t ≡ b → b || false ≡ true → u ≡ t
-    of_test true e f = same_task-is u t e
-    of_test false e f = absurd (cc)
-
--- not in a list of one
-pub not_one : (t u : TaskId) (ts : List TaskId) → has_task ts t ≡ false → has_task ts u ≡ true → has_task (t ∷ []) u ≡ false
-not_one t u ts out within = refuted (has_task (t ∷ []) u) (λ is. no_both (subst (λ x. has_task ts x ≡ true) (of_one t u is) within) out)
-
 -- not in a list whose members would be in another
 pub not_within : (ts us : List TaskId) (t : TaskId) → (has_task ts t ≡ true → has_task us t ≡ true) → has_task us t ≡ false → has_task ts t ≡ false
 not_within ts us t within out = refuted (has_task ts t) (λ is. no_both (within is) out)
@@ -92,29 +83,13 @@ out_right ts us t is = (any_parts (same_task t) ts us is).1
 
 -- who passes a test that some member passes
 pub any_named : (p : TaskId → Bool) (ts : List TaskId) → list_any p ts ≡ true → (t : TaskId) × (has_task ts t ≡ true) × (p t ≡ true)
-any_named p [] is = absurd (cc)
-any_named p (x ∷ ts) is = of_test (p x) refl is (any_named p ts)
-  where
-    of_test : (b : Bool) → p x ≡ b → b || list_any p ts ≡ true → (list_any p ts ≡ true → (t : TaskId) × (has_task ts t ≡ true) × (p t ≡ true)) → (t : TaskId) × (has_task (x ∷ ts) t ≡ true) × (p t ≡ true)
-    of_test true e at rest = (x, or_left (same_task x x) (has_task ts x) (same_task-self x), e)
-    of_test false e at rest = let r = rest at in (r.0, or_right (same_task r.0 x) (has_task ts r.0) r.1, r.2)
+any_named p ts is = let found = some_among p ts is in (found.0, has_among ts found.0 found.1, found.2)
 
 -- the only one of at most one
 pub only_one : (ts : List TaskId) (t : TaskId) → has_task ts t ≡ true → length ts ≤ 1 → ts ≡ t ∷ []
 only_one [] t is few = absurd (cc)
 only_one (x ∷ []) t is few = let one : t ≡ x = of_one x t is in ap (λ y. y ∷ []) (sym one)
 only_one (x ∷ y ∷ ts) t is few = absurd (omega arith)
-
--- one of whom all pass
-pub passes_all : (p : TaskId → Bool) (ts : List TaskId) (t : TaskId) → has_task ts t ≡ true → list_all p ts ≡ true → p t ≡ true
-passes_all p [] t is all = absurd (cc)
-passes_all p (x ∷ ts) t is all =
-    let parts = both (p x) (list_all p ts) all in
-    of_test (same_task t x) refl is parts.0 (λ rest. passes_all p ts t rest parts.1)
-  where
-    of_test : (b : Bool) → same_task t x ≡ b → b || has_task ts t ≡ true → p x ≡ true → (has_task ts t ≡ true → p t ≡ true) → p t ≡ true
-    of_test true e at here rest = let one : t ≡ x = same_task-is t x e in rw one here
-    of_test false e at here rest = rest at
 
 -- without the first ones
 pub has_task-drop : (n : ℕ) (ts : List TaskId) (t : TaskId) → has_task (drop n ts) t ≡ true → has_task ts t ≡ true
@@ -158,9 +133,12 @@ none_before (t ∷ ts) us is = grind (arith, nat_tests, is)
 
 -- who stands in a list is a member
 pub task_among : (ts : List TaskId) (t : TaskId) → has_task ts t ≡ true → Among t ts
-task_among [] t is = absurd (cc)
-task_among (u ∷ ts) t is = either (same_task t u) (has_task ts t) is (Among t (u ∷ ts)) (λ here. inl (same_task-is t u here)) (λ later. inr (task_among ts t later))
+task_among ts t is = let found = some_among (same_task t) ts is in subst (λ u. Among u ts) (sym (same_task-is t found.0 found.2)) found.1
 
 -- a member's name is among the names
 pub named_has : {X : Type 0} (name : X → TaskId) (xs : List X) (x : X) → Among x xs → has_task (map name xs) (name x) ≡ true
-named_has name xs x is = let at = index_of (map name xs) (name x) (Among-map name xs x is) in has_at (map name xs) at.0 (name x) at.1
+named_has name xs x is = has_among (map name xs) (name x) (Among-map name xs x is)
+
+-- what is made of tasks names one of them, where each names its own
+pub made_names : {X : Type 0} (make : TaskId → X) (name : X → TaskId) → ((u : TaskId) → name (make u) ≡ u) → (ts : List TaskId) (x : X) → Among x (map make ts) → has_task ts (name x) ≡ true
+made_names make name named ts x is = let found = Among-mapped make ts x is in subst (λ u. has_task ts u ≡ true) (sym (named found.0) ∙ ap name found.2) (has_among ts found.0 found.1)

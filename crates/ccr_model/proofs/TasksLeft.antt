@@ -1,14 +1,19 @@
 -- Over plain lists of tasks: who stands in a list, who passes a test, and who is left without others.
-use Rattle.std.proofs.Common.{◌≡◌, Bool, true, false, not, ◌&&◌, ◌||◌, List, [], ◌∷◌, ◌++◌, filter, refl, sym, arith, ◌∙◌, length, ◌+◌, ◌≤◌}
+use Rattle.std.proofs.Common.{◌≡◌, Bool, true, false, not, ◌&&◌, ◌||◌, List, [], ◌∷◌, ◌++◌, filter, refl, sym, arith, ◌∙◌, length, ◌+◌, ◌≤◌, ap, subst}
 use Rattle.std.specs.Prelude.{if◌then◌else◌}
 use Rattle.std.proofs.lemmas.Grind.{common_steps}
 use Rattle.ccr_base.specs.declared.names.TaskId.{TaskId}
 use Rattle.ccr_base.specs.Names.{same_task, has_task, without}
 use Rattle.ccr_model.specs.Consequences.{are_distinct_tasks}
-use Rattle.ccr_base.proofs.SameNames.{same_task-is, same_task-self, same_task-sym, has_task-append}
-use Rattle.ccr_base.proofs.Booleans.{not_true, both, neither, or_left, or_right}
+use Rattle.ccr_base.proofs.SameNames.{same_task-is, same_task-self, same_task-sym}
+use Rattle.ccr_base.proofs.Booleans.{not_true, both, or_left}
+use Rattle.ccr_base.proofs.Apart.{distinct_kept, distinct_push}
 use Rattle.ccr_base.proofs.Lists.{any_parts}
-use Rattle.ccr_base.proofs.Filters.{length-filter_stronger}
+use Rattle.ccr_model.proofs.Members.{Among, any_among, same_filter, some_among, kept_among, fewer_kept}
+
+-- a member stands in the list
+pub has_among : (ts : List TaskId) (t : TaskId) → Among t ts → has_task ts t ≡ true
+has_among ts t is = any_among (same_task t) ts t is (same_task-self t)
 
 pub has_task-filter : (p : TaskId → Bool) (ts : List TaskId) (t : TaskId) → has_task (filter p ts) t ≡ has_task ts t && p t
 has_task-filter p [] t = refl
@@ -35,11 +40,7 @@ of_without ts gone t is =
 
 -- a test that agrees on the members
 pub filter_on : (p q : TaskId → Bool) (ts : List TaskId) → ((u : TaskId) → has_task ts u ≡ true → p u ≡ q u) → filter p ts ≡ filter q ts
-filter_on p q [] same = refl
-filter_on p q (x ∷ ts) same =
-    let here = same x (or_left (same_task x x) (has_task ts x) (same_task-self x)) in
-    let later = filter_on p q ts (λ u is. same u (or_right (same_task u x) (has_task ts u) is)) in
-    rw (here, later) refl
+filter_on p q ts same = same_filter p q ts (λ u is. same u (has_among ts u is))
 
 -- what two lists leave
 pub without_both : (ts gone more : List TaskId) → without ts (gone ++ more) ≡ without (without ts gone) more
@@ -62,37 +63,15 @@ out_left front back t is = (any_parts (same_task t) front back is).0
 
 -- nobody stands twice in a part
 pub distinct-filter : (p : TaskId → Bool) (ts : List TaskId) → are_distinct_tasks ts ≡ true → are_distinct_tasks (filter p ts) ≡ true
-distinct-filter p [] is = refl
-distinct-filter p (x ∷ ts) is =
-    let parts = both (not (has_task ts x)) (are_distinct_tasks ts) is in
-    of_test (p x) (not_true (has_task ts x) parts.0) (distinct-filter p ts parts.1)
-  where
-    of_test : (b : Bool) → has_task ts x ≡ false → are_distinct_tasks (filter p ts) ≡ true → are_distinct_tasks (if b then x ∷ filter p ts else filter p ts) ≡ true
-    of_test true out rest = rw (has_task-filter p ts x, out) rest
-    of_test false out rest = rest
+distinct-filter = distinct_kept same_task are_distinct_tasks (λ t ts. refl)
 
 pub distinct-push : (ts : List TaskId) (t : TaskId) → are_distinct_tasks ts ≡ true → has_task ts t ≡ false → are_distinct_tasks (ts ++ t ∷ []) ≡ true
-distinct-push [] t is out = refl
-distinct-push (x ∷ ts) t is out =
-    let parts = both (not (has_task ts x)) (are_distinct_tasks ts) is in
-    let outs = neither (same_task t x) (has_task ts t) out in
-    rw (has_task-append ts (t ∷ []) x, not_true (has_task ts x) parts.0, same_task-sym x t, outs.0) (distinct-push ts t parts.1 outs.1)
+distinct-push = distinct_push same_task are_distinct_tasks (λ t ts. refl) (λ s t out. same_task-sym t s ∙ out)
 
 -- one more is gone
 pub less_left : (came gone : List TaskId) (t : TaskId) → has_task came t ≡ true → has_task gone t ≡ false → length (without came (gone ++ t ∷ [])) + 1 ≤ length (without came gone)
-less_left [] gone t is out = absurd (cc)
-less_left (x ∷ came) gone t is out = of_test (same_task t x) refl is (length-filter_stronger (λ u. not (has_task gone u)) (λ u. not (has_task (gone ++ t ∷ []) u)) (stronger gone t) came) (λ among. less_left came gone t among out)
-  where
-    stronger : (gone : List TaskId) (t u : TaskId) → not (has_task (gone ++ t ∷ []) u) ≡ true → not (has_task gone u) ≡ true
-    stronger gone t u left = grind (arith, common_steps)
-
-    of_test : (b : Bool) → same_task t x ≡ b → b || has_task came t ≡ true → length (without came (gone ++ t ∷ [])) ≤ length (without came gone) → (has_task came t ≡ true → length (without came (gone ++ t ∷ [])) + 1 ≤ length (without came gone)) → length (without (x ∷ came) (gone ++ t ∷ [])) + 1 ≤ length (without (x ∷ came) gone)
-    of_test true same among all rest =
-        let one : t ≡ x = same_task-is t x same in
-        let here : has_task (gone ++ t ∷ []) x ≡ true = rw one (grind (arith, common_steps, same_task-self x)) in
-        let there : has_task gone x ≡ false = rw (← one) out in
-        grind (arith, here, there, all)
-    of_test false same among all rest =
-        let less = rest among in
-        let keeps = stronger gone t x in
-        grind (arith, less, keeps)
+less_left came gone t is out =
+    let found = some_among (same_task t) came is in
+    let among : Among t came = subst (λ u. Among u came) (sym (same_task-is t found.0 found.2)) found.1 in
+    let left : Among t (without came gone) = kept_among (λ u. not (has_task gone u)) came t among (ap not out) in
+    rw (without_both came gone (t ∷ [])) (fewer_kept (λ u. not (has_task (t ∷ []) u)) (without came gone) t left (ap not (or_left (same_task t t) false (same_task-self t))))

@@ -1,5 +1,5 @@
 -- Nobody fires twice, so nobody waits twice, in one domain or in two.
-use Rattle.std.proofs.Common.{◌≡◌, ℕ, Bool, true, false, not, ◌||◌, List, [], ◌∷◌, ◌++◌, map, filter, Some, refl, sym, ap, ◌∙◌, append-nil, subst, Option, None}
+use Rattle.std.proofs.Common.{◌≡◌, ℕ, Bool, true, false, not, ◌||◌, List, [], ◌∷◌, ◌++◌, map, filter, Some, refl, sym, ap, ◌∙◌, append-nil, subst, Option, None, ◌&&◌}
 use Rattle.std.specs.Prelude.{◌==◌, if◌then◌else◌}
 use Rattle.std.specs.Option.{option_map_or}
 use Rattle.ccr_base.specs.declared.names.TaskId.{TaskId}
@@ -16,12 +16,14 @@ use Rattle.ccr_model.specs.Interleaves.{is_placement_in}
 use Rattle.ccr_model.specs.Tasks.{is_interleave, is_branch_where, fired_by, waiting, is_teardown}
 use Rattle.ccr_model.specs.Legal.{IsAllowed, IsLegal}
 use Rattle.ccr_model.proofs.Allowing.{OneName-legal}
-use Rattle.ccr_base.proofs.Booleans.{both, not_true, same_number, eq-self, eq_turned, no_both, refuted}
+use Rattle.ccr_base.proofs.Booleans.{both, same_number, eq-self, eq_turned, no_both, refuted}
 use Rattle.ccr_model.proofs.AllowedFirings.{FiresSo-allowed, WaitingFacts-waiting}
+use Rattle.ccr_base.proofs.Apart.{distinct_kept}
+use Rattle.ccr_base.proofs.Lists.{list_any-map}
 use Rattle.ccr_base.proofs.Options.{some_of}
 use Rattle.ccr_model.proofs.PostNames.{along}
 use Rattle.ccr_model.proofs.OneMoreEvent.{fired-fire, firings-push}
-use Rattle.ccr_model.proofs.TaskLists.{not_within, without_none}
+use Rattle.ccr_model.proofs.TaskLists.{without_none}
 use Rattle.ccr_model.proofs.TasksLeft.{distinct-push, distinct-filter}
 use Rattle.ccr_model.specs.Rules.{cuts_at}
 
@@ -48,15 +50,9 @@ some_of_all p (f ∷ fs) t now = by (p f) (same_task t f.task) refl now (some_of
 
 -- nobody stands twice among those of some firings
 pub some_once : (p : Firing → Bool) (fs : List Firing) → are_distinct_tasks (map (λ (f : Firing). f.task) fs) ≡ true → are_distinct_tasks (map (λ (f : Firing). f.task) (filter p fs)) ≡ true
-some_once p [] is = refl
-some_once p (f ∷ fs) is = by (p f) (some_once p fs (both (not (has_task (map (λ (g : Firing). g.task) fs) f.task)) _ is).1)
-  where
-    out : has_task (map (λ (g : Firing). g.task) (filter p fs)) f.task ≡ false
-    out = not_within (map (λ (g : Firing). g.task) (filter p fs)) (map (λ (g : Firing). g.task) fs) f.task (some_of_all p fs f.task) (not_true _ (both (not (has_task (map (λ (g : Firing). g.task) fs) f.task)) _ is).0)
-
-    by : (b : Bool) → are_distinct_tasks (map (λ (g : Firing). g.task) (filter p fs)) ≡ true → are_distinct_tasks (map (λ (g : Firing). g.task) (if b then f ∷ filter p fs else filter p fs)) ≡ true
-    by true rest = rw (out, rest) refl
-    by false rest = rest
+some_once =
+    distinct_kept (λ (f g : Firing). same_task f.task g.task) (λ (fs : List Firing). are_distinct_tasks (map (λ (f : Firing). f.task) fs))
+    (λ f fs. ap (λ b. not b && are_distinct_tasks (map (λ (g : Firing). g.task) fs)) (list_any-map (same_task f.task) (λ (g : Firing). g.task) fs))
 
 pub waiting_once : (w : Parts) (h : List Event) (i : ℕ) → IsLegal w h → are_distinct_tasks (waiting w h i) ≡ true
 waiting_once w h i legal = distinct-filter (λ t. not (has_task (ever_admitted h ++ cut h) t)) (fired_by w (is_placement_in i) h) (some_once (λ (f : Firing). is_branch_where w (is_placement_in i) f.spot) (firings h) (fired_once w h legal))

@@ -1,6 +1,6 @@
 -- A valid wiring has few spots, and few places.
-use Rattle.std.proofs.Common.{Bool, true, false, ◌≡◌, ℕ, zero, suc, ◌+◌, ◌*◌, ◌≤◌, ◌==◌, List, [], ◌∷◌, ◌++◌, length, length-append, refl, ap, arith, Option, Some, None}
-use Rattle.std.specs.Prelude.{filter_map, if◌then◌else◌}
+use Rattle.std.proofs.Common.{Bool, true, false, ◌≡◌, ℕ, zero, suc, ◌+◌, ◌*◌, ◌≤◌, ◌==◌, List, [], ◌∷◌, ◌++◌, length, length-append, refl, ap, arith}
+use Rattle.std.specs.Prelude.{if◌then◌else◌}
 use Rattle.ccr_base.specs.declared.names.Place.TheVariants as places
 use Rattle.ccr_wiring.specs.declared.parts.DomainPart.{DomainPart}
 use Rattle.ccr_wiring.specs.declared.parts.Parts.{Parts}
@@ -9,14 +9,7 @@ use Rattle.ccr_wiring.specs.Valid.{IsValid, HasFewActions}
 use Rattle.ccr_wiring.specs.Wirings.{Placement, placements, actions_of, awaited, await_port, sites_from, spots_from, spots}
 use Rattle.ccr_wiring.proofs.Soundness.{sound}
 use Rattle.ccr_object.specs.Starts.{port_places, queue_places, arbiter_places, site_place, site_places, places_of, member_at, members}
-
-pub length-filter_map : {X Y : Type 0} (h : X → Option Y) (xs : List X) → length (filter_map h xs) ≤ length xs
-length-filter_map h [] = omega arith
-length-filter_map {X} {Y} h (x ∷ xs) = by (h x) refl (length-filter_map h xs)
-  where
-    by : (o : Option Y) → h x ≡ o → length (filter_map h xs) ≤ length xs → length (filter_map h (x ∷ xs)) ≤ length (x ∷ xs)
-    by None e more = rw e (omega (arith, more))
-    by (Some y) e more = rw e (omega (arith, more))
+use Rattle.ccr_base.proofs.Filters.{length-filter_map}
 
 length-sites : (branch site : ℕ) (ports : List ℕ) → length (sites_from branch site ports) ≡ length ports
 length-sites branch site [] = refl

@@ -1,14 +1,14 @@
 -- A place keeps only messages and tasks whose numbers it has, and so its replies name no others.
-use Rattle.std.proofs.Common.{◌≡◌, ℕ, zero, suc, ◌-◌, Bool, true, false, ◌&&◌, List, [], ◌∷◌, ◌++◌, take, drop, filter, map, Option, Some, None, refl}
+use Rattle.std.proofs.Common.{◌≡◌, ℕ, Bool, true, false, ◌&&◌, List, [], ◌∷◌, ◌++◌, take, drop, filter, map, Option, Some, None, refl, sym, ap, ◌∙◌}
 use Rattle.std.specs.Prelude.{if◌then◌else◌, nat_le, nat_lt, slice_get, is_some, length}
 use Rattle.std.specs.List.{list_all}
 use Rattle.std.specs.Option.{option_map_or}
 use Rattle.std.proofs.lemmas.Bool.{and_from, and_parts}
+use Rattle.std.proofs.lemmas.List.Sums.{AllPass-from_list_all, list_all-from_AllPass}
 use Rattle.ccr_base.specs.declared.messages.Msg.{Msg}
 use Rattle.ccr_base.specs.declared.names.Place.{Place}
 use Rattle.ccr_base.specs.declared.names.Place.TheVariants as places
 use Rattle.ccr_base.specs.declared.names.TaskId.{TaskId}
-use Rattle.ccr_base.specs.declared.patterns.Pred.{Pred}
 use Rattle.ccr_base.specs.declared.patterns.Slot.{Slot}
 use Rattle.ccr_base.specs.declared.tasks.By.{By}
 use Rattle.ccr_base.specs.declared.tasks.By.TheVariants.{Fired as ByFired}
@@ -32,6 +32,7 @@ use Rattle.ccr_places.specs.Meters.{MeterState, may_leave, draw_note}
 use Rattle.ccr_places.specs.Ports.{PortState, may_post, may_claim, may_consume, may_free, claim_note, first_fitting, without_first, after_post, after_claim, after_consume, after_free}
 use Rattle.ccr_places.specs.Queues.{QueueTasks, may_book, may_unbook, may_put, book_note, put_note, drop_count, after_book, after_unbook, after_put}
 use Rattle.ccr_places.specs.Sites.{may_commit as may_resume}
+use Rattle.ccr_base.proofs.FirstFitting.{all_without}
 use Rattle.ccr_port.specs.declared.claims.Claimed.TheVariants.{Got, Busy, Short}
 use Rattle.ccr_port.specs.Replies.{claim_reply as claimed}
 use Rattle.ccr_arbiter.specs.Replies as arbiter_replies
@@ -59,6 +60,9 @@ use Rattle.ccr_object.specs.Queues as queues
 use Rattle.ccr_object.specs.Sites as sites
 use Rattle.ccr_wiring.specs.Wirings.{kind_of}
 use Rattle.ccr_object.specs.Starts.{fresh_arbiter, members, placed_at}
+use Rattle.std.proofs.lemmas.List.{take-append-drop}
+use Rattle.std.proofs.lemmas.List.Folds.{list_all-append}
+use Rattle.std.proofs.lemmas.List.Elements.{All-filter}
 
 -- ---- lists
 
@@ -67,22 +71,12 @@ chosen : {X : Type 0} (P : X → Type 0) (b : Bool) (x y : X) → P x → P y �
 chosen P true x y one other = one
 chosen P false x y one other = other
 
-all_drop : {X : Type 0} (p : X → Bool) (n : ℕ) (xs : List X) → list_all p xs ≡ true → list_all p (drop n xs) ≡ true
-all_drop p zero xs all = all
-all_drop p (suc n) [] all = refl
-all_drop p (suc n) (x ∷ xs) all = all_drop p n xs (and_parts (p x) (list_all p xs) all).1
-
-all_take : {X : Type 0} (p : X → Bool) (n : ℕ) (xs : List X) → list_all p xs ≡ true → list_all p (take n xs) ≡ true
-all_take p zero xs all = refl
-all_take p (suc n) [] all = refl
-all_take p (suc n) (x ∷ xs) all = let parts = and_parts (p x) (list_all p xs) all in and_from (p x) (list_all p (take n xs)) parts.0 (all_take p n xs parts.1)
+-- what passes of the first so many, and of the others
+all_parted : {X : Type 0} (p : X → Bool) (n : ℕ) (xs : List X) → list_all p xs ≡ true → (list_all p (take n xs) ≡ true) × (list_all p (drop n xs) ≡ true)
+all_parted p n xs all = and_parts (list_all p (take n xs)) (list_all p (drop n xs)) (sym (list_all-append p (take n xs) (drop n xs)) ∙ ap (list_all p) (take-append-drop n xs) ∙ all)
 
 all_filter : {X : Type 0} (p q : X → Bool) (xs : List X) → list_all p xs ≡ true → list_all p (filter q xs) ≡ true
-all_filter p q [] all = refl
-all_filter p q (x ∷ xs) all =
-    let parts = and_parts (p x) (list_all p xs) all in
-    let rest = all_filter p q xs parts.1 in
-    chosen (λ ys. list_all p ys ≡ true) (q x) (x ∷ filter q xs) (filter q xs) (and_from (p x) (list_all p (filter q xs)) parts.0 rest) rest
+all_filter p q xs all = list_all-from_AllPass p (filter q xs) (All-filter q (λ x. p x ≡ true) xs (AllPass-from_list_all p xs all))
 
 module _ (known : Numbers) where
   -- ---- replies
@@ -102,7 +96,7 @@ module _ (known : Numbers) where
   claim_named port slot all = of_claim port.claim
     where
       of_free : (b : Bool) → names_known known (ports.claim_reply (if b then Got (first_fitting slot.most slot.pred port.items) else Short (length (fitting slot.pred port.items)))) ≡ true
-      of_free true = all_take (knows_message known) slot.most (fitting slot.pred port.items) (all_filter (knows_message known) (λ (m : Msg). holds slot.pred m.value) port.items all)
+      of_free true = (all_parted (knows_message known) slot.most (fitting slot.pred port.items) (all_filter (knows_message known) (λ (m : Msg). holds slot.pred m.value) port.items all)).0
       of_free false = refl
 
       of_claim : (o : Option StandingClaim) → names_known known (ports.claim_reply (option_map_or (λ (claim : StandingClaim). Busy claim.task) o (if is_choosable slot port.items then Got (first_fitting slot.most slot.pred port.items) else Short (length (fitting slot.pred port.items))))) ≡ true
@@ -126,15 +120,6 @@ module _ (known : Numbers) where
   port_named port asks.Leave all = refl
   port_named port asks.Left all = refl
 
-  -- the messages that a consumed claim leaves
-  all_without : (count : ℕ) (pred : Pred) (ms : List Msg) → list_all (knows_message known) ms ≡ true → list_all (knows_message known) (without_first count pred ms) ≡ true
-  all_without count pred [] all = refl
-  all_without count pred (m ∷ ms) all =
-      let parts = and_parts (knows_message known m) (list_all (knows_message known) ms) all in
-      chosen (λ xs. list_all (knows_message known) xs ≡ true) (holds pred m.value && nat_lt 0 count) (without_first (count - 1) pred ms) (m ∷ without_first count pred ms)
-      (all_without (count - 1) pred ms parts.1)
-      (and_from (knows_message known m) (list_all (knows_message known) (without_first count pred ms)) parts.0 (all_without count pred ms parts.1))
-
   abbrev PortKeeps : PortState → Type 0
   PortKeeps port = list_all (knows_message known) port.items ≡ true
 
@@ -150,7 +135,7 @@ module _ (known : Numbers) where
     where
       by : (o : Option StandingClaim) → list_all (knows_message known) (option_map_or (λ (claim : StandingClaim). without_first claim.count claim.pred port.items) o port.items) ≡ true
       by None = all
-      by (Some claim) = all_without claim.count claim.pred port.items all
+      by (Some claim) = list_all-from_AllPass (knows_message known) (without_first claim.count claim.pred port.items) (all_without (λ (m : Msg). knows_message known m ≡ true) claim.count claim.pred port.items (AllPass-from_list_all (knows_message known) port.items all))
   port_keeps port (asks.Free t) is all = chosen PortKeeps (may_free port t) (after_free port) port all all
   port_keeps port (asks.Commit t ms) is all = all
   port_keeps port asks.Admit is all = all
@@ -228,7 +213,7 @@ module _ (known : Numbers) where
       by : (o : Option By) → dead_by place.state ≡ o → DomainKeeps (interleave_replies.after_commit place t)
       by None at = rw at (all_more (knows_task known) (spared_tasks place t.spot) t spared is)
       by (Some u) at = rw at all
-  domain_keeps place asks.Admit is all = chosen DomainKeeps (is_some (admit_note place.state)) (after_oldest place) place (all_drop (knows_task known) 1 place.tasks all) all
+  domain_keeps place asks.Admit is all = chosen DomainKeeps (is_some (admit_note place.state)) (after_oldest place) place (all_parted (knows_task known) 1 place.tasks all).1 all
   domain_keeps place (asks.Over t r how) is all = chosen DomainKeeps (interleaves.may_over place.state r) (record place { state = after_over place.state r }) place all all
   domain_keeps place (asks.Post m) is all = all
   domain_keeps place (asks.Claim t slot) is all = all
@@ -290,7 +275,7 @@ module _ (known : Numbers) where
 
   site_keeps : (site : SiteTasks) (ask : Ask) → is_known known ask ≡ true → SiteKeeps site → SiteKeeps (sites.after site ask)
   site_keeps site (asks.Commit t ms) is all = chosen SiteKeeps (may_resume (site_state site) t) (resuming.after_commit site t) site
-      (chosen SiteKeeps (nat_lt 0 (length site.suspended)) (record site { suspended = drop 1 site.suspended; fired = site.fired ++ t.id ∷ [] }) site (all_drop (knows_task known) 1 site.suspended all) all)
+      (chosen SiteKeeps (nat_lt 0 (length site.suspended)) (record site { suspended = drop 1 site.suspended; fired = site.fired ++ t.id ∷ [] }) site (all_parted (knows_task known) 1 site.suspended all).1 all)
       all
   site_keeps site (asks.Suspend t) is all = all_more (knows_task known) site.suspended t all is
   site_keeps site (asks.Post m) is all = all
@@ -338,9 +323,9 @@ module _ (known : Numbers) where
   queue_keeps queue (asks.Book t r) is all = chosen QueueKeeps (may_book queue.state t) (queues.with_state queue (after_book queue.state t r (book_note queue.state r))) queue all all
   queue_keeps queue (asks.Unbook t) is all = chosen QueueKeeps (may_unbook queue.state t) (queues.with_state queue (after_unbook queue.state t)) queue all all
   queue_keeps queue (asks.Put t) is all = chosen QueueKeeps (may_put queue.state t.id) (record { state = after_put queue.state t.id; tasks = drop (drop_count queue.state) queue.tasks ++ t ∷ [] }) queue
-      (all_more (knows_task known) (drop (drop_count queue.state) queue.tasks) t (all_drop (knows_task known) (drop_count queue.state) queue.tasks all) is)
+      (all_more (knows_task known) (drop (drop_count queue.state) queue.tasks) t (all_parted (knows_task known) (drop_count queue.state) queue.tasks all).1 is)
       all
-  queue_keeps queue asks.Take is all = all_drop (knows_task known) 1 queue.tasks all
+  queue_keeps queue asks.Take is all = (all_parted (knows_task known) 1 queue.tasks all).1
   queue_keeps queue (asks.Post m) is all = all
   queue_keeps queue (asks.Claim t slot) is all = all
   queue_keeps queue (asks.Consume t) is all = all

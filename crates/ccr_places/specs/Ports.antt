@@ -7,14 +7,15 @@
 --   for each ask, `after_..`: what the place keeps then;
 --   `after`: what the place keeps after a note, and `kept`: after a list of notes;
 --   `IsGiven`: which notes the place may give.
-use Rattle.std.specs.Prelude.{◌≡◌, ⊤, ℕ, ◌+◌, ◌-◌, ◌^◌, Bool, false, not, ◌==◌, ◌&&◌, nat_lt, nat_le, List, [], ◌∷◌, ◌++◌, length, take, fold, Option, Some, None, if◌then◌else◌}
+use Rattle.std.specs.Prelude.{◌≡◌, ⊤, ℕ, ◌+◌, ◌^◌, Bool, false, not, ◌==◌, ◌&&◌, nat_lt, nat_le, List, [], ◌∷◌, ◌++◌, length, take, fold, Option, Some, None, if◌then◌else◌}
 use Rattle.std.specs.Option.{option_map, option_map_or}
 use Rattle.ccr_base.specs.declared.names.TaskId.{TaskId}
 use Rattle.ccr_base.specs.declared.messages.Msg.{Msg}
 use Rattle.ccr_base.specs.declared.patterns.Pred.{Pred}
 use Rattle.ccr_base.specs.declared.patterns.Slot.{Slot}
 use Rattle.ccr_base.specs.Names.{same_task, has_task}
-use Rattle.ccr_base.specs.Selection.{holds, fitting, is_choosable}
+use Rattle.ccr_base.specs.Selection.{fitting, is_choosable}
+pub use Rattle.ccr_base.specs.Selection.{without_first}
 use Rattle.ccr_places.specs.declared.claims.StandingClaim.{StandingClaim}
 use Rattle.ccr_places.specs.declared.notes.ClaimNote.{ClaimNote}
 use Rattle.ccr_places.specs.declared.notes.ClaimNote.TheVariants.{Got, Busy, Short}
@@ -42,11 +43,6 @@ is_claimed_by port task = option_map_or (λ (claim : StandingClaim). same_task t
 -- from the oldest on, what the predicate takes, until there are so many
 abbrev pub first_fitting : ℕ → Pred → List Msg → List Msg
 first_fitting count pred messages = take count (fitting pred messages)
-
--- the messages without those
-abbrev pub without_first : ℕ → Pred → List Msg → List Msg
-without_first count pred [] = []
-without_first count pred (message ∷ messages) = if holds pred message.value && nat_lt 0 count then without_first (count - 1) pred messages else message ∷ without_first count pred messages
 
 -- the messages of the port that none of these tasks took: those that its claim marks are taken as soon as the task of the claim fires,
 -- though they stand at the port until the claim is consumed

@@ -9,6 +9,8 @@ pub use Rattle.std.proofs.lemmas.Bool.{or_parts as neither}
 pub use Rattle.std.proofs.lemmas.Bool.{and_parts as both}
 use Rattle.ccr_base.proofs.Booleans.{eq_turned, not_true, eq-self, same_number}
 use Rattle.ccr_base.specs.Lists.{are_apart}
+use Rattle.ccr_base.proofs.Apart.{apart_snoc}
+use Rattle.ccr_base.proofs.Lists.{any_meets}
 
 -- ---- tests
 
@@ -291,17 +293,6 @@ back-more g key v p (k ∷ ks) out last is = (
   back-more g key v (Some k) ks (neither _ _ out).1 last is.1,
 )
 
-has-more : (key a : ℕ) (ks : List ℕ) → (key == a) ≡ false → has_key a ks ≡ false → has_key a (ks ++ key ∷ []) ≡ false
-has-more key a [] other out = ap (λ b. b || false) other
-has-more key a (k ∷ ks) other out = ap (λ b. b || has_key a (ks ++ key ∷ [])) (neither _ _ out).0 ∙ has-more key a ks other (neither _ _ out).1
-
-pub apart-more : (key : ℕ) (ks : List ℕ) → has_key key ks ≡ false → are_apart ks ≡ true → are_apart (ks ++ key ∷ []) ≡ true
-apart-more key [] out apart = refl
-apart-more key (k ∷ ks) out apart =
-    let parts = both _ _ apart in
-    let outs = neither _ _ out in
-    ap (λ b. not b && are_apart (ks ++ key ∷ [])) (has-more key k ks (eq_turned k key outs.0) (not_true _ parts.0)) ∙ apart-more key ks outs.1 parts.1
-
 -- the key is linked behind the last
 pub chain-more : (f g f' g' : Option ℕ → Option ℕ) (key : ℕ) (ks : List ℕ) → IsChain f g ks → has_key key ks ≡ false
     → ((q : Option ℕ) → f' q ≡ mended (mended f (g None) (Some key)) (Some key) None q)
@@ -312,7 +303,7 @@ chain-more f g f' g' key ks is out path back =
     record {
       path = path-same _ f' (λ q. path q ∙ ap (λ a. mended (mended f a (Some key)) (Some key) None q) last) None _ (path-more f key None ks refl out (apart-from-start ks is.apart) is.path);
       back = back-same _ g' back None _ (back-more g key (g None) None ks out last is.back);
-      apart = apart-more key ks out is.apart;
+      apart = apart_snoc ks key is.apart out;
     }
 
 -- the last key isn't one that is not there
@@ -331,12 +322,7 @@ off_the_last g key ks is out = ap (λ p. same_point p (Some key)) (last-is g Non
 
 module _ (P : ℕ → Bool) where
   all-at : (key : ℕ) (ks : List ℕ) → has_key key ks ≡ true → list_all P ks ≡ true → P key ≡ true
-  all-at key [] has all = absurd (cc)
-  all-at key (k ∷ ks) has all = of_test (k == key) refl (λ later. all-at key ks later (both _ _ all).1)
-    where
-      of_test : (b : Bool) → (k == key) ≡ b → (has_key key ks ≡ true → P key ≡ true) → P key ≡ true
-      of_test true same rest = carried (λ n. P n ≡ true) k key (same_number k key same) (both _ _ all).0
-      of_test false other rest = rest (has-rest key k ks other has)
+  all-at key ks has all = let one = any_meets (λ n. n == key) P ks has all in ap P (sym (same_number one.0 key one.1)) ∙ one.2
 
   pub all-without : (key : ℕ) (ks : List ℕ) → list_all P ks ≡ true → list_all P (without_key key ks) ≡ true
   all-without key [] all = refl

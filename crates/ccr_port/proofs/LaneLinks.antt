@@ -1,28 +1,20 @@
 -- What the writes of a lane leave: its keys, linked.
-use Rattle.std.proofs.Common.{◌≡◌, ℕ, zero, suc, ◌+◌, ◌-◌, ◌^◌, ◌<◌, ◌≤◌, true, false, ◌==◌, ◌&&◌, List, [], ◌∷◌, ◌++◌, length, Option, Some, None, refl, sym, ap, ◌∙◌, arith, length-append, Bool}
-use Rattle.std.specs.Prelude.{if◌then◌else◌, nat_lt}
+use Rattle.std.proofs.Common.{◌≡◌, ℕ, zero, suc, ◌+◌, ◌-◌, ◌^◌, ◌<◌, ◌≤◌, true, false, ◌&&◌, List, [], ◌∷◌, ◌++◌, length, Option, Some, None, refl, sym, ap, ◌∙◌, arith, length-append}
+use Rattle.std.specs.Prelude.{nat_lt}
 use Rattle.std.specs.List.{slice_get, list_all}
 use Rattle.std.specs.Option.{option_and_then}
 use Rattle.std.proofs.Math.ListN.{set, get_or}
 use Rattle.std.proofs.lemmas.List.{length-set}
-use Rattle.std.proofs.lemmas.Grind.{common_steps}
 use Rattle.std.proofs.lemmas.Bool.{ltb-true, lt-ltb}
 use Rattle.std.proofs.lemmas.Option.{slice_get_read}
-use Rattle.ccr_base.proofs.Booleans.{not_true, same_number, differ}
+use Rattle.ccr_base.proofs.Booleans.{not_true}
 use Rattle.ccr_base.proofs.Lists.{all_more}
-use Rattle.ccr_base.proofs.Options.{get-set_same, get-set_other}
+use Rattle.ccr_base.proofs.Options.{slice_get-set}
 use Rattle.ccr_port.specs.declared.links.Link.{Link}
 use Rattle.ccr_port.specs.Chains.{behind_of, before_of, has_key, without_key, IsChain, mended}
 use Rattle.ccr_port.specs.Lanes.{is_below, lane_keys, IsLinkedLane, KeyLaneState, can_enter}
 use Rattle.ccr_port.proofs.Chains.{both, keys-are, behind-index, all-without, end-holds, key-holds, behind_key-holds, before_key-holds, length-without_key, chain-same}
 use Rattle.ccr_port.proofs.Linking.{chain-appended, chain-unlinked}
-
-slice_get-set : {X : Type 0} (xs : List X) (key k : ℕ) (x : X) → key < length xs → slice_get (set xs key x) k ≡ (if k == key then Some x else slice_get xs k)
-slice_get-set xs key k x low = of_test (k == key) refl
-  where
-    of_test : (same : Bool) → (k == key) ≡ same → slice_get (set xs key x) k ≡ (if same then Some x else slice_get xs k)
-    of_test true is = ap (slice_get (set xs key x)) (same_number k key is) ∙ get-set_same xs key x low
-    of_test false is = get-set_other xs key x k (differ k key is)
 
 -- these keys are linked, and the fields lead to them
 pub record Leads (links : List Link) (first last : Option ℕ) (count : ℕ) (ks : List ℕ) : Type 0 where

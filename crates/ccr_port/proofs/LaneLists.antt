@@ -1,12 +1,10 @@
 -- How the lanes of a port stay what they are while messages come and go.
-use Rattle.std.proofs.Common.{◌≡◌, ℕ, zero, suc, ◌+◌, ◌^◌, ◌<◌, ◌≤◌, Bool, true, false, not, ◌==◌, ◌&&◌, ◌||◌, List, [], ◌∷◌, ◌++◌, length, map, take, drop, Some, refl, sym, ap, ◌∙◌, arith, add-one, length-take}
+use Rattle.std.proofs.Common.{◌≡◌, ℕ, zero, suc, ◌+◌, ◌^◌, ◌<◌, Bool, true, false, not, ◌==◌, ◌&&◌, ◌||◌, List, [], ◌∷◌, ◌++◌, length, map, take, drop, Some, refl, sym, ap, ◌∙◌, arith, add-one, length-take}
 use Rattle.std.specs.Prelude.{if◌then◌else◌, nat_lt}
 use Rattle.std.specs.List.{slice_get, list_all}
 use Rattle.std.proofs.Math.ListN.{set, get_or}
-use Rattle.std.specs.Bool.{Decides}
-use Rattle.std.proofs.lemmas.Option.{get_or_from_slice_get, same_Some}
+use Rattle.std.proofs.lemmas.Option.{same_Some}
 use Rattle.std.proofs.lemmas.List.{take_more_set, drop_more}
-use Rattle.std.proofs.lemmas.Grind.{common_steps}
 use Rattle.std.proofs.lemmas.Bool.Decides.{nat_tests}
 use Rattle.std.proofs.lemmas.Bool.{lt-ltb}
 use Rattle.std.proofs.Math.Bool.{or-true}
@@ -16,8 +14,8 @@ use Rattle.ccr_base.specs.Selection.{holds}
 use Rattle.ccr_base.specs.Lists.{are_apart}
 use Rattle.ccr_port.specs.Chains.{has_key, without_key}
 use Rattle.ccr_port.specs.Entries.{keys_of, message_under, without_entry, without_entries, can_take}
-use Rattle.ccr_port.specs.Lanes.{KeyLaneState, fitting_keys, AreLanes, AreSame, HasLane, can_enter, can_leave, appended, unlinked, entered, left, have_room}
-use Rattle.ccr_port.proofs.Chains.{both, has-rest}
+use Rattle.ccr_port.specs.Lanes.{KeyLaneState, fitting_keys, AreLanes, AreSame, can_enter, can_leave, appended, unlinked, entered, left, have_room}
+use Rattle.ccr_port.proofs.Chains.{both}
 use Rattle.ccr_port.proofs.Listing.{Stands, fitting_keys-more, fits-absent, few-fitting_keys}
 
 -- ---- room
@@ -159,18 +157,6 @@ left-all es key message at (lane ∷ lanes) are = (one (holds lane.pred message.
 pub are-one_more : (es : List (ℕ × Msg)) (lanes : List KeyLaneState) (lane : KeyLaneState) → AreLanes es lanes → lane.keys ≡ fitting_keys lane.pred es → AreLanes es (lanes ++ lane ∷ [])
 are-one_more es [] lane are is = (is, tt)
 are-one_more es (l ∷ lanes) lane are is = (are.0, are-one_more es lanes lane are.1 is)
-
--- the lane that was looked at isn't of the predicate, so one that is stands behind it
-pub passed_over : (lanes : List KeyLaneState) (n k : ℕ) (here : KeyLaneState) (pred : Pred) (b : Bool) → here ≡ get_or lanes n here → Decides b (here.pred ≡ pred) → b ≡ false → n ≤ k → HasLane lanes k pred → n + 1 ≤ k
-passed_over lanes n k here pred b read decides other low has = of_test (n == k) refl
-  where
-    of_test : (same : Bool) → (n == k) ≡ same → n + 1 ≤ k
-    of_test true is =
-        let same : n ≡ k = grind (arith, nat_tests, is) in
-        let this : here ≡ has.0 = read ∙ get_or_from_slice_get lanes n has.0 here (rw same has.1) in
-        let yes : b ≡ true = decides.1 (rw this has.2) in
-        absurd (cc)
-    of_test false is = grind (arith, nat_tests, is, low)
 
 pub is-at : (es : List (ℕ × Msg)) (lanes : List KeyLaneState) (n : ℕ) (lane : KeyLaneState) → AreLanes es lanes → slice_get lanes n ≡ Some lane → lane.keys ≡ fitting_keys lane.pred es
 is-at es [] n lane are at = absurd (cc)

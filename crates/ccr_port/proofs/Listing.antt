@@ -1,9 +1,8 @@
 -- The messages of a port by their keys: which satisfy a predicate, and what is left without them.
-use Rattle.std.proofs.Common.{◌≡◌, ℕ, zero, suc, ◌-◌, ◌<◌, ◌≤◌, Bool, true, false, not, ◌==◌, ◌&&◌, ◌||◌, List, [], ◌∷◌, ◌++◌, length, take, Some, None, refl, sym, ap, ◌∙◌, arith, add-one, length-append, option_to_list}
+use Rattle.std.proofs.Common.{◌≡◌, ℕ, zero, suc, ◌-◌, ◌<◌, ◌≤◌, Bool, true, false, not, ◌==◌, ◌&&◌, ◌||◌, List, [], ◌∷◌, ◌++◌, length, take, Some, None, refl, sym, ap, ◌∙◌, arith, option_to_list, drop}
 use Rattle.std.specs.Prelude.{if◌then◌else◌, nat_lt}
 use Rattle.std.specs.List.{slice_get}
 use Rattle.std.proofs.Math.ListN.{get_or}
-use Rattle.std.proofs.lemmas.Grind.{common_steps}
 use Rattle.std.proofs.lemmas.Bool.Decides.{nat_tests}
 use Rattle.std.proofs.Math.Bool.{or-true}
 use Rattle.std.proofs.lemmas.Option.{same_Some}
@@ -12,14 +11,15 @@ use Rattle.ccr_base.specs.declared.patterns.Pred.{Pred}
 use Rattle.ccr_base.specs.Selection.{holds, fitting}
 use Rattle.ccr_base.proofs.Booleans.{eq_turned, not_true, eq-self, same_number}
 use Rattle.ccr_base.specs.Lists.{are_apart}
-use Rattle.ccr_base.proofs.Lists.{take_none}
+use Rattle.ccr_base.proofs.Lists.{take_none, any_parts}
 use Rattle.ccr_base.proofs.Options.{none-above}
 use Rattle.ccr_places.specs.Ports.{without_first}
-use Rattle.ccr_places.proofs.FirstFitting.{without_first-none}
+use Rattle.ccr_base.proofs.FirstFitting.{without_first-none}
 use Rattle.ccr_port.specs.Chains.{has_key}
 use Rattle.ccr_port.specs.Entries.{keys_of, messages_of, message_under, messages_under, are_under, without_entry, without_entries, can_take}
 use Rattle.ccr_port.specs.Lanes.{fitting_keys}
-use Rattle.ccr_port.proofs.Chains.{both, neither, has-rest, carried, apart-without}
+use Rattle.ccr_port.proofs.Chains.{both, neither}
+use Rattle.std.proofs.lemmas.List.{take-append-drop}
 
 -- ---- one more message
 
@@ -83,13 +83,7 @@ module _ (pred : Pred) where
       of_test false rest = omega arith
 
 has-take : (key n : ℕ) (ks : List ℕ) → has_key key ks ≡ false → has_key key (take n ks) ≡ false
-has-take key zero ks out = none ks
-  where
-    none : (xs : List ℕ) → has_key key (take 0 xs) ≡ false
-    none [] = refl
-    none (x ∷ xs) = refl
-has-take key (suc n) [] out = refl
-has-take key (suc n) (k ∷ ks) out = let parts = neither _ _ out in ap (λ b. b || has_key key (take n ks)) parts.0 ∙ has-take key n ks parts.1
+has-take key n ks out = (any_parts (λ k. k == key) (take n ks) (drop n ks) (ap (has_key key) (take-append-drop n ks) ∙ out)).0
 
 -- ---- a message whose key is none of these
 

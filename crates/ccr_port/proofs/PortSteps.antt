@@ -1,5 +1,5 @@
 -- How a port stays one while messages come, are marked and go.
-use Rattle.std.proofs.Common.{◌≡◌, ℕ, zero, suc, ◌+◌, ◌^◌, ◌<◌, ◌≤◌, min, Bool, true, false, ◌==◌, List, [], ◌∷◌, ◌++◌, length, map, take, Option, Some, None, refl, sym, ap, ◌∙◌, arith}
+use Rattle.std.proofs.Common.{◌≡◌, ℕ, suc, ◌+◌, ◌^◌, ◌<◌, ◌≤◌, min, Bool, true, false, ◌==◌, List, [], ◌∷◌, ◌++◌, length, map, take, Option, Some, None, refl, sym, ap, ◌∙◌, arith}
 use Rattle.std.specs.Prelude.{if◌then◌else◌, nat_le, nat_lt}
 use Rattle.std.specs.List.{list_all}
 use Rattle.std.proofs.Math.ListN.{get_or}
@@ -7,13 +7,14 @@ use Rattle.std.proofs.lemmas.Option.{get_or_from_slice_get}
 use Rattle.std.proofs.lemmas.Grind.{common_steps}
 use Rattle.std.proofs.lemmas.Bool.Decides.{nat_tests}
 use Rattle.std.proofs.lemmas.Bool.{lt-leb}
-use Rattle.std.proofs.lemmas.List.{length_push}
+use Rattle.std.proofs.lemmas.List.{length_push, take-append-le}
 use Rattle.ccr_base.specs.declared.names.TaskId.{TaskId}
 use Rattle.ccr_base.specs.declared.messages.Msg.{Msg}
 use Rattle.ccr_base.specs.declared.patterns.Pred.{Pred}
 use Rattle.ccr_base.specs.declared.patterns.Slot.{Slot}
 use Rattle.ccr_base.specs.Selection.{holds, fitting}
 use Rattle.ccr_base.specs.Lists.{are_apart}
+use Rattle.ccr_base.proofs.Apart.{apart_snoc}
 use Rattle.ccr_places.specs.declared.claims.StandingClaim.{StandingClaim}
 use Rattle.ccr_places.specs.declared.notes.ClaimNote.TheVariants.{Got as GotNote, Short as ShortNote}
 use Rattle.ccr_places.specs.Ports.{PortState, may_post, claim_note, after_claim, without_first}
@@ -24,16 +25,10 @@ use Rattle.ccr_port.specs.Entries.{keys_of, messages_of, messages_under, are_und
 use Rattle.ccr_port.specs.Lanes.{KeyLaneState, fitting_keys, AreLanes, AreSame, HasLane, can_enter, entered, have_room}
 use Rattle.ccr_port.specs.Marks.{IsMarked, IsPort}
 use Rattle.ccr_port.specs.Replies.{are_at, claim_reply}
-use Rattle.ccr_port.proofs.Chains.{both, apart-more, apart-without}
+use Rattle.ccr_port.proofs.Chains.{both, apart-without}
 use Rattle.ccr_port.proofs.MessagesBearTheirPort.{own_more, own-rest}
 use Rattle.ccr_port.proofs.Listing.{messages-more, fitting_keys-more, length-fitting_keys, is_selection}
 use Rattle.ccr_port.proofs.LaneLists.{are-same, can-enter-all, entered-all, is-at}
-
-take_front : {X : Type 0} (n : ℕ) (xs : List X) (x : X) → n ≤ length xs → take n (xs ++ x ∷ []) ≡ take n xs
-take_front zero [] x low = refl
-take_front zero (y ∷ xs) x low = refl
-take_front (suc n) [] x low = absurd (omega arith)
-take_front (suc n) (y ∷ xs) x low = ap (λ l. y ∷ l) (take_front n xs x (omega arith))
 
 take_min : {X : Type 0} (n : ℕ) (xs : List X) → take (min (length xs) n) xs ≡ take n xs
 take_min n xs = grind (arith, common_steps)
@@ -62,7 +57,7 @@ marked-more es key message (Some mark) is = of_test (holds mark.standing.pred me
 
     of_test : (b : Bool) → fitting_keys mark.standing.pred (es ++ (key, message) ∷ []) ≡ (if b then fitting_keys mark.standing.pred es ++ key ∷ [] else fitting_keys mark.standing.pred es)
         → (mark.keys.items ≡ take mark.standing.count (fitting_keys mark.standing.pred (es ++ (key, message) ∷ []))) × (mark.standing.count ≤ length (fitting_keys mark.standing.pred (es ++ (key, message) ∷ [])))
-    of_test true more = rw more (is.0 ∙ sym (take_front mark.standing.count (fitting_keys mark.standing.pred es) key is.1), grind (arith, common_steps, is.1))
+    of_test true more = rw more (is.0 ∙ sym (take-append-le mark.standing.count (fitting_keys mark.standing.pred es) (key ∷ []) is.1), grind (arith, common_steps, is.1))
     of_test false more = rw more is
 
 keys_of-more : (es : List (ℕ × Msg)) (key : ℕ) (message : Msg) → keys_of (es ++ (key, message) ∷ []) ≡ keys_of es ++ key ∷ []
@@ -75,7 +70,7 @@ module _ (number : ℕ) (es now : List (ℕ × Msg)) (lanes lanes2 : List KeyLan
   posted few here come = rw come (record {
     few = omega (arith, length_push es (key, message));
     own = rw (messages-more key message es) (own_more number (messages_of es) message is.own here);
-    apart = ap are_apart (keys_of-more es key message) ∙ apart-more key (keys_of es) out is.apart;
+    apart = ap are_apart (keys_of-more es key message) ∙ apart_snoc (keys_of es) key is.apart out;
     lanes = entered-all es key message lanes2 (are-same es lanes lanes2 same is.lanes);
     marked = marked-more es key message claim is.marked;
   })

@@ -9,7 +9,6 @@ use Rattle.ccr_handler.specs.declared.segments.Play.{Play}
 use Rattle.ccr_handler.specs.declared.segments.PlayEnd.{PlayEnd}
 use Rattle.ccr_handler.specs.declared.segments.PlayEnd.TheVariants as plays
 use Rattle.ccr_wiring.specs.declared.parts.Parts.{Parts}
-use Rattle.ccr_wiring.specs.declared.parts.QueuePart.{QueuePart}
 use Rattle.ccr_claim.specs.declared.asks.Asked.{Asked}
 use Rattle.ccr_claim.specs.declared.asks.Due.TheVariants as dues
 use Rattle.ccr_claim.specs.declared.asks.Reply.{Reply}
@@ -21,19 +20,15 @@ use Rattle.ccr_claim.specs.Attempts.{Phase, booking, release, out_of_memory}
 use Rattle.ccr_claim.specs.Lines.{line_ask}
 use Rattle.ccr_claim.specs.Settling.{AttemptStep}
 use Rattle.ccr_actor.specs.Plans.{plan_of}
-use Rattle.ccr_actor.specs.Actors.{State, Work, lines, round, taking, playing, posting, shedding, resting, Turn, settle, admit, go_on, stop, turn, turn_of, spots_left, name_at, asked, ask_in, work_ask, play_ask, end_ask, settled, after_admit, after_in, after, after_work, after_line, after_round, after_take, take_from, after_play, after_end, shorten}
+use Rattle.ccr_actor.specs.Actors.{State, Work, lines, round, taking, playing, posting, shedding, resting, Turn, settle, admit, go_on, stop, turn, turn_of, spots_left, name_at, asked, ask_in, work_ask, play_ask, end_ask, settled, after_admit, after_in, after, shorten}
 use Rattle.ccr_actor.proofs.StepsOfAttempts.{none-owed}
+use Rattle.ccr_net.proofs.Owed.WorkKeepsStates.{worked}
 use Rattle.ccr_rests.specs.Trials.{Trial, between, is_of_attempt}
 use Rattle.ccr_rests.proofs.Answering.{state_lacking, steps_lacking, may_lacking}
 use Rattle.ccr_rests.proofs.Hands.{IsBetween, release_ordered}
 use Rattle.ccr_rests.proofs.AttemptsMoveOn.{and, Idle, Runs, Goes, ends, runs_go, settles_go}
 
--- ---- what the work asks, and what a reply to it leaves
-
--- no attempt is under way, and nothing new is in hand
-record IsAside (old new : State) : Type 0 where
-  pub hand : new.hand ≡ old.hand
-  pub phase : new.phase ≡ old.phase
+-- ---- what the work asks
 
 end-ask : (task : Task) (play : Play) (how : PlayEnd) → is_of_attempt (end_ask task play how).ask ≡ false
 end-ask task play plays.Done = refl
@@ -62,78 +57,6 @@ work-asks actor work one is = by work is
     by (posting task index play sent) now = told _ now refl
     by (shedding task) now = told _ now refl
     by resting now = cc now
-
-ended-aside : (w : Parts) (st : State) (task : Task) (how : PlayEnd) → IsAside st (after_end w st task how)
-ended-aside w st task plays.Done = record { hand = refl; phase = refl }
-ended-aside w st task (plays.Failed value) = record { hand = refl; phase = refl }
-ended-aside w st task (plays.Yield site) = record { hand = refl; phase = refl }
-
-drawn-aside : (w : Parts) (st : State) (task : Task) (index : ℕ) (play : Play) (posts : List Sent) (reply : Reply) → IsAside st (after_play w st task index play posts reply)
-drawn-aside w st task index play [] reply = ended-aside w st task play.end
-drawn-aside w st task index play (sent ∷ posts) (replies.Drawn n) = record { hand = refl; phase = refl }
-drawn-aside w st task index play (sent ∷ posts) replies.Done = record { hand = refl; phase = refl }
-drawn-aside w st task index play (sent ∷ posts) (replies.Got m) = record { hand = refl; phase = refl }
-drawn-aside w st task index play (sent ∷ posts) (replies.Busy t) = record { hand = refl; phase = refl }
-drawn-aside w st task index play (sent ∷ posts) (replies.Short n) = record { hand = refl; phase = refl }
-drawn-aside w st task index play (sent ∷ posts) (replies.Fired t cuts) = record { hand = refl; phase = refl }
-drawn-aside w st task index play (sent ∷ posts) (replies.Dead by) = record { hand = refl; phase = refl }
-drawn-aside w st task index play (sent ∷ posts) (replies.Admitted t) = record { hand = refl; phase = refl }
-drawn-aside w st task index play (sent ∷ posts) replies.Booked = record { hand = refl; phase = refl }
-drawn-aside w st task index play (sent ∷ posts) (replies.Full n) = record { hand = refl; phase = refl }
-drawn-aside w st task index play (sent ∷ posts) (replies.Dropped t) = record { hand = refl; phase = refl }
-drawn-aside w st task index play (sent ∷ posts) (replies.Taken t) = record { hand = refl; phase = refl }
-drawn-aside w st task index play (sent ∷ posts) replies.Spent = record { hand = refl; phase = refl }
-drawn-aside w st task index play (sent ∷ posts) (replies.Left n) = record { hand = refl; phase = refl }
-
-taking-aside : (w : Parts) (st : State) (left queue : ℕ) (parts : List QueuePart) → IsAside st (take_from w st left queue parts)
-taking-aside w st left queue [] = record { hand = refl; phase = refl }
-taking-aside w st left queue (part ∷ parts) = record { hand = refl; phase = refl }
-
-taken-aside : (w : Parts) (st : State) (left queue : ℕ) (more : List QueuePart) (reply : Reply) → IsAside st (after_take w st left queue more reply)
-taken-aside w st left queue more (replies.Taken (Some task)) = record { hand = refl; phase = refl }
-taken-aside w st left queue more (replies.Taken None) = taking-aside w st left (queue + 1) more
-taken-aside w st left queue more replies.Done = taking-aside w st left (queue + 1) more
-taken-aside w st left queue more (replies.Got m) = taking-aside w st left (queue + 1) more
-taken-aside w st left queue more (replies.Busy t) = taking-aside w st left (queue + 1) more
-taken-aside w st left queue more (replies.Short n) = taking-aside w st left (queue + 1) more
-taken-aside w st left queue more (replies.Fired t cuts) = taking-aside w st left (queue + 1) more
-taken-aside w st left queue more (replies.Dead by) = taking-aside w st left (queue + 1) more
-taken-aside w st left queue more (replies.Admitted t) = taking-aside w st left (queue + 1) more
-taken-aside w st left queue more replies.Booked = taking-aside w st left (queue + 1) more
-taken-aside w st left queue more (replies.Full n) = taking-aside w st left (queue + 1) more
-taken-aside w st left queue more (replies.Dropped t) = taking-aside w st left (queue + 1) more
-taken-aside w st left queue more (replies.Drawn n) = taking-aside w st left (queue + 1) more
-taken-aside w st left queue more replies.Spent = taking-aside w st left (queue + 1) more
-taken-aside w st left queue more (replies.Left n) = taking-aside w st left (queue + 1) more
-
-round-aside : (w : Parts) (st : State) (reply : Reply) → IsAside st (after_round w st reply)
-round-aside w st (replies.Left n) = taking-aside w st n 0 w.queues
-round-aside w st replies.Done = record { hand = refl; phase = refl }
-round-aside w st (replies.Got m) = record { hand = refl; phase = refl }
-round-aside w st (replies.Busy t) = record { hand = refl; phase = refl }
-round-aside w st (replies.Short n) = record { hand = refl; phase = refl }
-round-aside w st (replies.Fired t cuts) = record { hand = refl; phase = refl }
-round-aside w st (replies.Dead by) = record { hand = refl; phase = refl }
-round-aside w st (replies.Admitted t) = record { hand = refl; phase = refl }
-round-aside w st replies.Booked = record { hand = refl; phase = refl }
-round-aside w st (replies.Full n) = record { hand = refl; phase = refl }
-round-aside w st (replies.Dropped t) = record { hand = refl; phase = refl }
-round-aside w st (replies.Taken t) = record { hand = refl; phase = refl }
-round-aside w st (replies.Drawn n) = record { hand = refl; phase = refl }
-round-aside w st replies.Spent = record { hand = refl; phase = refl }
-
-line-aside : (w : Parts) (st : State) (index : ℕ) (sents : List Sent) → IsAside st (after_line w st index sents)
-line-aside w st index [] = record { hand = refl; phase = refl }
-line-aside w st index (sent ∷ sents) = record { hand = refl; phase = refl }
-
-work-aside : (w : Parts) (st : State) (work : Work) (reply : Reply) → IsAside st (after_work w st work reply)
-work-aside w st (lines index sents) reply = line-aside w st index sents
-work-aside w st round reply = round-aside w st reply
-work-aside w st (taking left queue more) reply = taken-aside w st left queue more reply
-work-aside w st (playing task index play) reply = drawn-aside w st task index play play.posts reply
-work-aside w st (posting task index play sent) reply = record { hand = refl; phase = refl }
-work-aside w st (shedding task) reply = record { hand = refl; phase = refl }
-work-aside w st resting reply = record { hand = refl; phase = refl }
 
 -- ---- what an admission leaves, and what is settled between attempts
 
@@ -233,7 +156,7 @@ module _ (w : Parts) (a : ℕ) (past : List AttemptStep) (st : State) (idle : Id
   step-in false [] [] (spot ∷ more) is own at left = begins spot more is own at left
   step-in false [] [] [] is own at left =
       let turns : turn st ≡ go_on = ap (turn_of st.is_short st.hand st.domains) left ∙ rw (is, own, at) refl in
-      let facts = work-aside w st st.work reply in
+      let facts = worked w st st.work refl reply in
       let apart : is_of_attempt one.ask ≡ false = work-asks a st.work one (asks-in go_on turns) in
       aside go_on turns apart (subst IsBetween (sym (facts.hand ∙ own)) tt) facts.phase
 

@@ -1,5 +1,5 @@
 -- A booking is ended once, and by whom.
-use Rattle.std.proofs.Common.{inl, inr, ◌⊎◌, ◌≡◌, ◌≤◌, ◌<◌, ℕ, zero, suc, ◌+◌, Bool, true, false, not, ◌&&◌, ◌||◌, List, [], ◌∷◌, ◌++◌, length, Option, Some, None, refl, sym, arith, ap, ◌∙◌, subst}
+use Rattle.std.proofs.Common.{inl, inr, ◌⊎◌, ◌≡◌, ◌≤◌, ℕ, zero, suc, ◌+◌, Bool, true, false, not, ◌&&◌, ◌||◌, List, [], ◌∷◌, ◌++◌, length, Option, Some, None, refl, sym, arith, ap, ◌∙◌, subst}
 use Rattle.std.specs.Prelude.{if◌then◌else◌}
 use Rattle.std.specs.FinSet as set
 use Rattle.ccr_base.specs.declared.names.Place.TheVariants as places
@@ -29,7 +29,7 @@ use Rattle.ccr_actor.specs.Plans.{plan_of}
 use Rattle.ccr_actor.specs.Actors.{State, after, after_attempt, after_in, name_at, shorten}
 use Rattle.ccr_runs.specs.declared.entries.Entry.{Entry}
 use Rattle.ccr_runs.specs.Places.{note_of, queue_note}
-use Rattle.ccr_runs.specs.EntryRuns.{IsRunAfter, Lacks, made_by, notes_at, reply_of, reply_to, same_place, state_of, queue_at}
+use Rattle.ccr_runs.specs.EntryRuns.{IsRunAfter, Lacks, notes_at, reply_of, reply_to, same_place, state_of, queue_at}
 use Rattle.ccr_runs.specs.Visible.{visible}
 use Rattle.ccr_net.proofs.Kept.WholeInvariant.{Holds, begins, IsBegun}
 use Rattle.ccr_net.proofs.Parts.TasksAreBookedOnce.{in-less, in-more}
@@ -40,10 +40,9 @@ use Rattle.ccr_net.proofs.Owed.NotedOversAreOver.{is_over_ask}
 use Rattle.ccr_net.proofs.Owed.EntriesChangeOwing.{is_quiet}
 use Rattle.ccr_net.proofs.Owed.PutTasksAreBooked.{is_booked_at}
 use Rattle.ccr_net.proofs.Played.PlacesByNumber.{same_place-is}
-use Rattle.ccr_net.proofs.Played.PlayedRunsAreRuns.{run_on}
-use Rattle.ccr_net.proofs.Played.HoldersOfTasksAnswer.{run_holds}
-use Rattle.ccr_net.proofs.Parts.OneMoreEntry.{IsNextState, Step, Step-made, along_run, queue_at-push, state_of-own}
+use Rattle.ccr_net.proofs.Parts.OneMoreEntry.{IsNextState, Step, Step-made, queue_at-push, state_of-own}
 use Rattle.ccr_rests.specs.Ends.{EndsBooking, EndsOnce, MayPut, MayUnbook, tells}
+use Rattle.ccr_rests.proofs.HeldRuns.{along_held, holds_so}
 use Rattle.ccr_rests.proofs.BroughtHands.{HandsBrought, IsBrought, hands_brought-kept}
 use Rattle.ccr_rests.proofs.EntryCounts.{AreOwn, Parted, count, count-push, ends_once, own-push, parted}
 use Rattle.ccr_rests.proofs.NoteKinds.{kind_asked, kind_noted}
@@ -297,13 +296,6 @@ unbooked : (w : Parts) (q : ℕ) (t : TaskId) → is_booked_at w [] q t ≡ fals
 unbooked w q t = rw (set.contains-empty task_cmp t) refl
 
 module _ (w : Parts) (workers : ℕ) (lacks : Lacks) (valid : IsValid w) (few : workers ≤ 16) where
-  holds_so : (es : List Entry) → IsRunAfter w workers lacks [] es → Holds w (length w.posters + workers) lacks es
-  holds_so es run = (run_holds w workers lacks es valid few run).holds
-
-  record RunKnown (es : List Entry) : Type 0 where
-    run : IsRunAfter w workers lacks [] es
-    bookings : BookingsKnown w lacks es
-
   -- nothing is in hand at first
   begins_empty : (a : ℕ) (st : State) → IsBegun w a st → st.hand ≡ []
   begins_empty a st (inl is) = ap (λ (s : State). s.hand) is
@@ -318,14 +310,8 @@ module _ (w : Parts) (workers : ℕ) (lacks : Lacks) (valid : IsValid w) (few : 
     brought = λ a x is. absurd (subst (Among x) (begins_empty a (state_of w lacks [] a) (begins w lacks a)) is);
   }
 
-  run_known : (es : List Entry) → IsRunAfter w workers lacks [] es → RunKnown es
-  run_known es run = along_run w workers lacks RunKnown kept (record { run = tt; bookings = booked_first }) es run
-    where
-      kept : (past : List Entry) (e : Entry) → RunKnown past → e.actor < length w.posters + workers → made_by w lacks past e.actor ≡ Some e → RunKnown (past ++ e ∷ [])
-      kept past e known low made = record {
-        run = run_on w workers lacks [] past e known.run low made;
-        bookings = bookings_known-kept w (length w.posters + workers) lacks past e (holds_so past known.run) (Step-made w lacks past e made) known.bookings;
-      }
+  run_known : (es : List Entry) → IsRunAfter w workers lacks [] es → BookingsKnown w lacks es
+  run_known = along_held w workers lacks valid few (BookingsKnown w lacks) (bookings_known-kept w (length w.posters + workers) lacks) booked_first
 
   module _ (past : List Entry) (e : Entry) (more : List Entry) (run : IsRunAfter w workers lacks [] (past ++ e ∷ more)) (q : ℕ) (t : TaskId) (is : tells noted_unbooked (places.Queue q) t e ≡ true) where
     parts : Parted w workers lacks past e more
@@ -335,13 +321,13 @@ module _ (w : Parts) (workers : ℕ) (lacks : Lacks) (valid : IsValid w) (few : 
     step = Step-made w lacks past e parts.made
 
     known : BookingsKnown w lacks past
-    known = (run_known past parts.run).bookings
+    known = run_known past parts.run
 
     balance : bit (tells noted_booked (places.Queue q) t e) + bit (is_booked_at w past q t) ≡ bit (tells noted_unbooked (places.Queue q) t e) + bit (is_booked_at w (past ++ e ∷ []) q t)
-    balance = entry_balance w (length w.posters + workers) lacks past e (holds_so past parts.run) step q t
+    balance = entry_balance w (length w.posters + workers) lacks past e (holds_so w workers lacks valid few past parts.run) step q t
 
     pub booking_by : EndsBooking past e.actor e.note
-    booking_by = ends_by w (length w.posters + workers) lacks past e (holds_so past parts.run) step q t known.brought is
+    booking_by = ends_by w (length w.posters + workers) lacks past e (holds_so w workers lacks valid few past parts.run) step q t known.brought is
 
     not_booked : bit (tells noted_booked (places.Queue q) t e) ≤ 0
     not_booked = by (tells noted_booked (places.Queue q) t e) refl
@@ -382,7 +368,7 @@ module _ (w : Parts) (workers : ℕ) (lacks : Lacks) (valid : IsValid w) (few : 
 
     pub booking_once : EndsOnce noted_booked noted_unbooked (places.Queue q) t past e more
     booking_once =
-        let all = (run_known (past ++ e ∷ more) run).bookings in
+        let all = run_known (past ++ e ∷ more) run in
         let few_begun = all.once q t in
         let sums = all.balanced q t in
         ends_once noted_booked noted_unbooked (places.Queue q) t past e more known.own is booked_then.1 booked_then.2 few_begun (omega (arith, few_begun, sums))

@@ -10,7 +10,8 @@ use Rattle.ccr_base.specs.Names.{same_task, has_task}
 use Rattle.ccr_wiring.specs.declared.parts.Parts.{Parts}
 use Rattle.ccr_model.specs.Firings.{fired}
 use Rattle.ccr_base.proofs.Booleans.{eq-self, no_both, or_left, or_right, refuted, same_number}
-use Rattle.ccr_model.proofs.Members.{Among, Among-either}
+use Rattle.ccr_model.proofs.Members.{Among, both_among}
+use Rattle.ccr_model.proofs.TaskLists.{made_names}
 use Rattle.ccr_base.proofs.SameNames.{same_task-self}
 use Rattle.ccr_places.specs.declared.notes.Note.{Note}
 use Rattle.ccr_places.specs.declared.notes.Note.TheVariants as notes
@@ -62,11 +63,7 @@ abbrev pub HandsBrought : Parts → Lacks → List Entry → Type 0
 HandsBrought w lacks es = (a : ℕ) → AreBrought es a (state_of w lacks es a).attempt (state_of w lacks es a).hand
 
 both_brought : (es : List Entry) (a bound : ℕ) (xs ys : List Asked) → AreBrought es a bound xs → AreBrought es a bound ys → AreBrought es a bound (xs ++ ys)
-both_brought es a bound xs ys left right x is = of_split (Among-either x xs ys is)
-  where
-    of_split : Among x xs ⊎ Among x ys → IsBrought es a bound x.ask
-    of_split (inl l) = left x l
-    of_split (inr r) = right x r
+both_brought es a bound = both_among (λ (x : Asked). IsBrought es a bound x.ask)
 
 one_brought : (es : List Entry) (a bound : ℕ) (y : Asked) → IsBrought es a bound y.ask → AreBrought es a bound (y ∷ [])
 one_brought es a bound y is x (inl same) = subst (λ (z : Asked). IsBrought es a bound z.ask) (sym same) is
@@ -144,12 +141,7 @@ module _ (w : Parts) (n : ℕ) (lacks : Lacks) (es : List Entry) (e : Entry) (ho
         of (inr now) = (let counts = (fire_counts w n lacks es e holds step (name_at e.actor (state_of w lacks es e.actor)) now).fired in omega (arith, counts, same))
 
     cut_brought : (bound : ℕ) (u : TaskId) (s : Spot) (ms : List MsgId) (cs : List TaskId) → e.note ≡ notes.Fired u s ms cs → AreBrought (es ++ e ∷ []) e.actor bound (map cut_ask (map (cut_view w (visible (es ++ e ∷ []))) cs))
-    cut_brought bound u s ms cs noted = all_brought (es ++ e ∷ []) e.actor bound cut_ask (map (cut_view w (visible (es ++ e ∷ []))) cs) (λ c is. inr (told_now noted_cut c.task es e (ap (λ note. has_task (noted_cut note) c.task) noted ∙ within cs c is)))
-      where
-        within : (ts : List TaskId) (c : Cut) → Among c (map (cut_view w (visible (es ++ e ∷ []))) ts) → has_task ts c.task ≡ true
-        within [] c is = absurd is
-        within (t ∷ ts) c (inl same) = or_left (same_task c.task t) (has_task ts c.task) (ap (λ (d : Cut). same_task d.task t) same ∙ same_task-self t)
-        within (t ∷ ts) c (inr more) = or_right (same_task c.task t) (has_task ts c.task) (within ts c more)
+    cut_brought bound u s ms cs noted = all_brought (es ++ e ∷ []) e.actor bound cut_ask (map (cut_view w (visible (es ++ e ∷ []))) cs) (λ c is. inr (told_now noted_cut c.task es e (ap (λ note. has_task (noted_cut note) c.task) noted ∙ made_names (cut_view w (visible (es ++ e ∷ []))) (λ (d : Cut). d.task) (λ u. refl) cs c is)))
 
     put_brought : (bound : ℕ) (spot : Spot) (b : Bool) → AreBrought (es ++ e ∷ []) e.actor bound (put_asks (if b then None else Some (view w (visible (es ++ e ∷ [])) (name_at e.actor (state_of w lacks es e.actor)))))
     put_brought bound spot true x is = absurd is

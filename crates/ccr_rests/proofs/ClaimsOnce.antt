@@ -26,7 +26,7 @@ use Rattle.ccr_actor.specs.Plans.{plan_of}
 use Rattle.ccr_actor.specs.Actors.{name_at}
 use Rattle.ccr_runs.specs.declared.entries.Entry.{Entry}
 use Rattle.ccr_runs.specs.Places.{note_of, port_note}
-use Rattle.ccr_runs.specs.EntryRuns.{IsRunAfter, Lacks, made_by, notes_at, port_at, same_place, state_of}
+use Rattle.ccr_runs.specs.EntryRuns.{IsRunAfter, Lacks, notes_at, port_at, same_place, state_of}
 use Rattle.ccr_runs.specs.Visible.{visible}
 use Rattle.ccr_net.proofs.Kept.WholeInvariant.{Holds}
 use Rattle.ccr_net.proofs.Parts.PortsAndHandsMatch.{IsOwed}
@@ -36,10 +36,9 @@ use Rattle.ccr_net.proofs.Owed.NotedOversAreOver.{is_over_ask}
 use Rattle.ccr_net.proofs.Owed.EntriesChangeOwing.{is_quiet}
 use Rattle.ccr_net.proofs.Owed.OwedClaimsStand.{is_claimed}
 use Rattle.ccr_net.proofs.Played.PlacesByNumber.{same_place-is}
-use Rattle.ccr_net.proofs.Played.PlayedRunsAreRuns.{run_on}
-use Rattle.ccr_net.proofs.Played.HoldersOfTasksAnswer.{run_holds}
-use Rattle.ccr_net.proofs.Parts.OneMoreEntry.{Step, Step-made, along_run, port_at-push}
+use Rattle.ccr_net.proofs.Parts.OneMoreEntry.{Step, Step-made, port_at-push}
 use Rattle.ccr_rests.specs.Ends.{EndsClaim, EndsOnce, tells}
+use Rattle.ccr_rests.proofs.HeldRuns.{along_held, holds_so}
 use Rattle.ccr_rests.proofs.EntryCounts.{AreOwn, Parted, count, count-push, ends_once, low_actors, own-push, parted, some_telling}
 use Rattle.ccr_rests.proofs.NoteKinds.{kind_asked, kind_noted}
 use Rattle.ccr_rests.proofs.Rising.{IsOld, Rises, Tries, from_hand, rises, tries}
@@ -314,26 +313,13 @@ module _ (w : Parts) (n : ℕ) (lacks : Lacks) (es : List Entry) (e : Entry) (ho
 -- ---- the law
 
 module _ (w : Parts) (workers : ℕ) (lacks : Lacks) (valid : IsValid w) (few : workers ≤ 16) where
-  holds_so : (es : List Entry) → IsRunAfter w workers lacks [] es → Holds w (length w.posters + workers) lacks es
-  holds_so es run = (run_holds w workers lacks es valid few run).holds
-
-  record RunKnown (es : List Entry) : Type 0 where
-    run : IsRunAfter w workers lacks [] es
-    claims : ClaimsKnown w lacks es
-
-  run_known : (es : List Entry) → IsRunAfter w workers lacks [] es → RunKnown es
-  run_known es run = along_run w workers lacks RunKnown kept (record { run = tt; claims = record { balanced = λ p t. refl; old = λ p t some. absurd (omega (arith, some)); once = λ p t. omega arith; own = λ x is t has. absurd is } }) es run
-    where
-      kept : (past : List Entry) (e : Entry) → RunKnown past → e.actor < length w.posters + workers → made_by w lacks past e.actor ≡ Some e → RunKnown (past ++ e ∷ [])
-      kept past e known low made = record {
-        run = run_on w workers lacks [] past e known.run low made;
-        claims = claims_known-kept w (length w.posters + workers) lacks past e (holds_so past known.run) (Step-made w lacks past e made) known.claims;
-      }
+  run_known : (es : List Entry) → IsRunAfter w workers lacks [] es → ClaimsKnown w lacks es
+  run_known = along_held w workers lacks valid few (ClaimsKnown w lacks) (claims_known-kept w (length w.posters + workers) lacks) (record { balanced = λ p t. refl; old = λ p t some. absurd (omega (arith, some)); once = λ p t. omega arith; own = λ x is t has. absurd is })
 
   -- whose claim stands is an attempt of one of the actors
   pub claimed_low : (es : List Entry) → IsRunAfter w workers lacks [] es → (p : ℕ) (t : TaskId) → is_claimed_by (port_at es p) t ≡ true → t.actor < length w.posters + workers
   claimed_low es run p t is =
-      let known = (run_known es run).claims in
+      let known = run_known es run in
       let sums = known.balanced p t in
       let stands = ap bit is in
       let found = some_telling noted_claimed (places.Port p) t es (omega (arith, sums, stands)) in
@@ -347,15 +333,15 @@ module _ (w : Parts) (workers : ℕ) (lacks : Lacks) (valid : IsValid w) (few : 
     step = Step-made w lacks past e parts.made
 
     pub own_claim : EndsClaim past e.actor e.note
-    own_claim = (ends_own w (length w.posters + workers) lacks past e (holds_so past parts.run) step p t is).so
+    own_claim = (ends_own w (length w.posters + workers) lacks past e (holds_so w workers lacks valid few past parts.run) step p t is).so
 
     -- what is claimed before and after
     claimed_then : (bit (is_claimed past p t) ≡ 1) × (count noted_claimed (places.Port p) t past ≡ 1) × (count noted_unclaimed (places.Port p) t past ≡ 0)
     claimed_then =
-        let known = (run_known past parts.run).claims in
+        let known = run_known past parts.run in
         let before = known.balanced p t in
         let once = known.once p t in
-        let balance = entry_balance w (length w.posters + workers) lacks past e (holds_so past parts.run) step p t in
+        let balance = entry_balance w (length w.posters + workers) lacks past e (holds_so w workers lacks valid few past parts.run) step p t in
         let ends = ap bit is in
         let began : bit (tells noted_claimed (places.Port p) t e) ≤ 0 = not_claimed in
         (omega (arith, before, once, balance, ends, began), omega (arith, before, once, balance, ends, began), omega (arith, before, once, balance, ends, began))
@@ -389,12 +375,12 @@ module _ (w : Parts) (workers : ℕ) (lacks : Lacks) (valid : IsValid w) (few : 
         of_end (inr found) = rw found.1 refl
 
         by : (b : Bool) → same_place e.place (places.Port p) ≡ b → (if b then ports.after (port_at past p) e.note else port_at past p).claim ≡ None
-        by true at = of_end (ending (port_at past p) step.asking.ask e.note t (noted_at w (length w.posters + workers) lacks past e (holds_so past parts.run) step p at) at_p.1)
+        by true at = of_end (ending (port_at past p) step.asking.ask e.note t (noted_at w (length w.posters + workers) lacks past e (holds_so w workers lacks valid few past parts.run) step p at) at_p.1)
         by false at = absurd (no_both at_p.0 at)
 
     pub claim_once : EndsOnce noted_claimed noted_unclaimed (places.Port p) t past e more
     claim_once =
-        let all = (run_known (past ++ e ∷ more) run).claims in
+        let all = run_known (past ++ e ∷ more) run in
         let few_begun = all.once p t in
         let balance = all.balanced p t in
-        ends_once noted_claimed noted_unclaimed (places.Port p) t past e more (run_known past parts.run).claims.own is claimed_then.1 claimed_then.2 few_begun (omega (arith, few_begun, balance))
+        ends_once noted_claimed noted_unclaimed (places.Port p) t past e more (run_known past parts.run).own is claimed_then.1 claimed_then.2 few_begun (omega (arith, few_begun, balance))

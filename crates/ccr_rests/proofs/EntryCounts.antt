@@ -88,16 +88,16 @@ pub record Parted (w : Parts) (n : ℕ) (lacks : Lacks) (past : List Entry) (e :
   pub low : e.actor < length w.posters + n
   pub made : made_by w lacks past e.actor ≡ Some e
 
-front : (w : Parts) (n : ℕ) (lacks : Lacks) (past es fs : List Entry) → IsRunAfter w n lacks past (es ++ fs) → IsRunAfter w n lacks past es
-front w n lacks past [] fs run = tt
-front w n lacks past (x ∷ es) fs run = (run.0, run.1, front w n lacks (past ++ x ∷ []) es fs run.2)
+prefix_run : (w : Parts) (n : ℕ) (lacks : Lacks) (past es fs : List Entry) → IsRunAfter w n lacks past (es ++ fs) → IsRunAfter w n lacks past es
+prefix_run w n lacks past [] fs run = tt
+prefix_run w n lacks past (x ∷ es) fs run = (run.0, run.1, prefix_run w n lacks (past ++ x ∷ []) es fs run.2)
 
 behind : (w : Parts) (n : ℕ) (lacks : Lacks) (past es fs : List Entry) → IsRunAfter w n lacks past (es ++ fs) → IsRunAfter w n lacks (past ++ es) fs
 behind w n lacks past [] fs run = subst (λ p. IsRunAfter w n lacks p fs) (sym (append-nil past)) run
 behind w n lacks past (x ∷ es) fs run = subst (λ p. IsRunAfter w n lacks p fs) (append_assoc past (x ∷ []) es) (behind w n lacks (past ++ x ∷ []) es fs run.2)
 
 pub parted : (w : Parts) (n : ℕ) (lacks : Lacks) (past : List Entry) (e : Entry) (more : List Entry) → IsRunAfter w n lacks [] (past ++ e ∷ more) → Parted w n lacks past e more
-parted w n lacks past e more run = let rest = behind w n lacks [] past (e ∷ more) run in record { run = front w n lacks [] past (e ∷ more) run; low = rest.0; made = rest.1 }
+parted w n lacks past e more run = let rest = behind w n lacks [] past (e ∷ more) run in record { run = prefix_run w n lacks [] past (e ∷ more) run; low = rest.0; made = rest.1 }
 
 -- each entry is of one of the actors
 pub low_actors : (w : Parts) (n : ℕ) (lacks : Lacks) (past es : List Entry) → IsRunAfter w n lacks past es → (x : Entry) → Among x es → x.actor < length w.posters + n

@@ -1,5 +1,5 @@
 -- Who has fired after an entry, and what that does to the state of its actor.
-use Rattle.std.proofs.Common.{inl, inr, ◌⊎◌, ◌≡◌, ◌≤◌, ℕ, ◌+◌, Bool, true, false, List, [], ◌∷◌, ◌++◌, map, Option, Some, None, refl, sym, arith, ap, ◌∙◌, subst}
+use Rattle.std.proofs.Common.{inl, inr, ◌⊎◌, ◌≡◌, ◌≤◌, ℕ, ◌+◌, Bool, true, false, ◌&&◌, List, [], ◌∷◌, ◌++◌, map, Option, Some, None, refl, sym, arith, ap, ◌∙◌, subst}
 use Rattle.std.specs.Prelude.{if◌then◌else◌}
 use Rattle.ccr_base.specs.declared.names.MsgId.{MsgId}
 use Rattle.ccr_base.specs.declared.names.Place.{Place}
@@ -10,8 +10,7 @@ use Rattle.ccr_base.specs.declared.tasks.Task.{Task}
 use Rattle.ccr_base.specs.Names.{has_task}
 use Rattle.ccr_wiring.specs.declared.parts.Parts.{Parts}
 use Rattle.ccr_model.specs.Firings.{fired}
-use Rattle.ccr_base.proofs.Booleans.{both, or_left}
-use Rattle.ccr_base.proofs.SameNames.{same_task-self}
+use Rattle.ccr_base.proofs.Booleans.{both}
 use Rattle.ccr_model.proofs.Stable.{fired-append}
 use Rattle.ccr_model.proofs.TaskLists.{among_left, among_right, of_more, of_one}
 use Rattle.ccr_places.specs.declared.notes.Note.{Note}
@@ -23,6 +22,8 @@ use Rattle.ccr_runs.specs.EntryRuns.{Lacks, notes_at, reply_of, reply_to, same_p
 use Rattle.ccr_runs.specs.Views.{cut_view, view}
 use Rattle.ccr_runs.specs.Visible.{event_of, shown, visible}
 use Rattle.ccr_net.proofs.Kept.WholeInvariant.{Holds}
+use Rattle.ccr_net.proofs.Parts.ArbitersMatch.{fired_there}
+use Rattle.ccr_net.proofs.Conditions.CommitsMeetConditions.{shows_fired}
 use Rattle.ccr_net.proofs.Parts.MeterMatches.{bit}
 use Rattle.ccr_net.proofs.Parts.OneMoreEntry.{Step, visible-push}
 use Rattle.ccr_rests.specs.Ends.{tells}
@@ -64,41 +65,25 @@ shows_firing a (notes.Left k) t has = absurd (cc)
 pub fired_then : (es : List Entry) (e : Entry) (t : TaskId) → has_task (fired (visible (es ++ e ∷ []))) t ≡ true → (has_task (fired (visible es)) t ≡ true) ⊎ IsFiring e.note t
 fired_then es e t has = of_more (fired (visible es)) (fired (event_of e)) t ((has_task (fired (visible es)) t ≡ true) ⊎ IsFiring e.note t) (ap (λ ts. has_task ts t) (sym (ap fired (visible-push es e) ∙ fired-append (visible es) (event_of e))) ∙ has) (λ old. inl old) (λ new. inr (shows_firing e.actor e.note t new))
 
+-- only a firing notes that a task fired
 pub firing_told : (note : Note) (t : TaskId) → has_task (noted_fired note) t ≡ true → IsFiring note t
-firing_told (notes.Fired u s ms cs) t has = record { spot = s; messages = ms; cuts = cs; noted = ap (λ v. notes.Fired v s ms cs) (sym (of_one u t has)) }
-firing_told (notes.Post m) t has = absurd (cc)
-firing_told (notes.Claim u s r) t has = absurd (cc)
-firing_told (notes.Consume u) t has = absurd (cc)
-firing_told (notes.Free u) t has = absurd (cc)
-firing_told (notes.Dead u s by) t has = absurd (cc)
-firing_told (notes.Admit u) t has = absurd (cc)
-firing_told (notes.Over u r how) t has = absurd (cc)
-firing_told (notes.Suspend u) t has = absurd (cc)
-firing_told (notes.Book u r f) t has = absurd (cc)
-firing_told (notes.Unbook u) t has = absurd (cc)
-firing_told (notes.Put u d) t has = absurd (cc)
-firing_told (notes.Take u) t has = absurd (cc)
-firing_told (notes.Draw k) t has = absurd (cc)
-firing_told notes.Leave t has = absurd (cc)
-firing_told (notes.Left k) t has = absurd (cc)
+firing_told note t has = shows_firing 0 note t (shows_fired 0 note t has)
 
 pub told_firing : (pl : Place) (t : TaskId) (e : Entry) → tells noted_fired pl t e ≡ true → IsFiring e.note t
 told_firing pl t e is = firing_told e.note t (both (same_place e.place pl) (has_task (noted_fired e.note) t) is).1
 
--- what is told to have fired has fired
-pub fired_told : (pl : Place) (t : TaskId) (es : List Entry) → 1 ≤ count noted_fired pl t es → has_task (fired (visible es)) t ≡ true
-fired_told pl t [] some = absurd (omega (arith, some))
-fired_told pl t (e ∷ es) some = ap (λ ts. has_task ts t) (fired-append (event_of e) (visible es)) ∙ by (tells noted_fired pl t e) refl (fired_told pl t es)
+-- what is told to have fired has fired by the notes of the place
+pub told_there : (pl : Place) (t : TaskId) (es : List Entry) → 1 ≤ count noted_fired pl t es → has_task (fired_there (notes_at es pl)) t ≡ true
+told_there pl t [] some = absurd (omega (arith, some))
+told_there pl t (e ∷ es) some = by (same_place e.place pl) (count-first noted_fired pl t e es) (told_there pl t es)
   where
-    self : (u : TaskId) → has_task (u ∷ []) u ≡ true
-    self u = or_left _ false (same_task-self u)
+    of_told : (c : Bool) → has_task (noted_fired e.note) t ≡ c → count noted_fired pl t (e ∷ es) ≡ bit (true && c) + count noted_fired pl t es → (1 ≤ count noted_fired pl t es → has_task (fired_there (notes_at es pl)) t ≡ true) → has_task (noted_fired e.note ++ fired_there (notes_at es pl)) t ≡ true
+    of_told true told sums rest = among_left (noted_fired e.note) (fired_there (notes_at es pl)) t told
+    of_told false told sums rest = among_right (noted_fired e.note) (fired_there (notes_at es pl)) t (rest (omega (arith, sums, some)))
 
-    of_firing : IsFiring e.note t → has_task (fired (event_of e)) t ≡ true
-    of_firing is = ap (λ note. has_task (fired (shown e.actor note)) t) is.noted ∙ self t
-
-    by : (b : Bool) → tells noted_fired pl t e ≡ b → (1 ≤ count noted_fired pl t es → has_task (fired (visible es)) t ≡ true) → has_task (fired (event_of e) ++ fired (visible es)) t ≡ true
-    by true at rest = among_left (fired (event_of e)) (fired (visible es)) t (of_firing (told_firing pl t e at))
-    by false at rest = among_right (fired (event_of e)) (fired (visible es)) t (rest (let first = count-first noted_fired pl t e es in let none = ap bit at in omega (arith, first, none, some)))
+    by : (b : Bool) → count noted_fired pl t (e ∷ es) ≡ bit (b && has_task (noted_fired e.note) t) + count noted_fired pl t es → (1 ≤ count noted_fired pl t es → has_task (fired_there (notes_at es pl)) t ≡ true) → has_task (fired_there ((if b then e.note ∷ [] else []) ++ notes_at es pl)) t ≡ true
+    by false first rest = rest (omega (arith, first, some))
+    by true first rest = of_told (has_task (noted_fired e.note) t) refl first rest
 
 -- ---- the firing's actor
 

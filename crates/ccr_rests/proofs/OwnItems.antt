@@ -1,15 +1,13 @@
 -- In a run each port keeps messages of its own.
-use Rattle.std.proofs.Common.{◌≡◌, ℕ, ◌-◌, Bool, true, false, ◌&&◌, List, [], ◌∷◌, ◌++◌, Option, Some, None, refl, sym, subst}
-use Rattle.std.specs.Prelude.{All, ◌==◌, nat_lt, if◌then◌else◌}
+use Rattle.std.proofs.Common.{◌≡◌, ℕ, Bool, true, false, List, [], ◌∷◌, ◌++◌, Option, Some, None, refl, sym, subst}
+use Rattle.std.specs.Prelude.{All, ◌==◌, if◌then◌else◌}
 use Rattle.std.specs.Option.{option_map_or}
-use Rattle.std.proofs.lemmas.List.Elements.{All-append, All-cons, All-head, All-nil, All-tail}
+use Rattle.std.proofs.lemmas.List.Elements.{All-append, All-cons, All-nil}
 use Rattle.ccr_base.specs.declared.messages.Msg.{Msg}
 use Rattle.ccr_base.specs.declared.names.Place.{Place}
 use Rattle.ccr_base.specs.declared.names.Place.TheVariants as places
 use Rattle.ccr_base.specs.declared.names.TaskId.{TaskId}
-use Rattle.ccr_base.specs.declared.patterns.Pred.{Pred}
 use Rattle.ccr_base.specs.declared.patterns.Slot.{Slot}
-use Rattle.ccr_base.specs.Selection.{holds}
 use Rattle.ccr_wiring.specs.declared.parts.Parts.{Parts}
 use Rattle.ccr_base.proofs.Booleans.{both, same_number}
 use Rattle.ccr_places.specs.declared.claims.StandingClaim.{StandingClaim}
@@ -19,6 +17,7 @@ use Rattle.ccr_places.specs.declared.notes.Note.{Note}
 use Rattle.ccr_places.specs.declared.notes.Note.TheVariants as notes
 use Rattle.ccr_places.specs.Ports.{PortState, may_post, may_claim, claim_note, without_first, is_claimed_by}
 use Rattle.ccr_places.specs.Ports as ports
+use Rattle.ccr_base.proofs.FirstFitting.{all_without}
 use Rattle.ccr_claim.specs.declared.asks.Ask.{Ask}
 use Rattle.ccr_claim.specs.declared.asks.Ask.TheVariants as asks
 use Rattle.ccr_runs.specs.declared.entries.Entry.{Entry}
@@ -35,12 +34,6 @@ IsAt number m = (m.port == number) ≡ true
 pub record IsOwn (number : ℕ) (port : PortState) : Type 0 where
   pub number_so : port.number ≡ number
   pub items : All (IsAt number) port.items
-
-all_without : (P : Msg → Type 0) (n : ℕ) (pred : Pred) (ms : List Msg) → All P ms → All P (without_first n pred ms)
-all_without P n pred [] all = all
-all_without P n pred (m ∷ ms) all =
-    let rest : All P ms = All-tail P m ms all in
-    elim (holds pred m.value && nat_lt 0 n) as (λ b. All P (if b then without_first (n - 1) pred ms else m ∷ without_first n pred ms)) [ true ↦ all_without P (n - 1) pred ms rest | false ↦ All-cons P m (without_first n pred ms) (All-head P m ms all) (all_without P n pred ms rest) ]
 
 claim_own : (number : ℕ) (port : PortState) (task : TaskId) (slot : Slot) (note : ClaimNote) → IsOwn number port → IsOwn number (ports.after_claim port task slot note)
 claim_own number port task slot (Got n) own = record { number_so = own.number_so; items = own.items }

@@ -1,8 +1,10 @@
 -- What a port keeps was posted there.
-use Rattle.std.proofs.Common.{inl, inr, ◌⊎◌, ◌≡◌, ◌<◌, ℕ, ◌+◌, ◌-◌, Bool, true, false, ◌&&◌, List, [], ◌∷◌, ◌++◌, length, Option, Some, None, refl, sym, arith, ◌∙◌, subst}
-use Rattle.std.specs.Prelude.{◌==◌, if◌then◌else◌, nat_lt, ◌^◌}
+use Rattle.std.proofs.Common.{inl, inr, ◌⊎◌, ◌≡◌, ◌<◌, ℕ, ◌+◌, Bool, true, false, List, [], ◌∷◌, ◌++◌, length, Option, Some, None, refl, sym, arith, ◌∙◌, subst}
+use Rattle.std.specs.Prelude.{◌==◌, nat_lt, ◌^◌, if◌then◌else◌}
 use Rattle.std.specs.Option.{option_map_or}
+use Rattle.std.proofs.Math.ListN.{get_or}
 use Rattle.std.proofs.lemmas.Grind.{common_steps}
+use Rattle.std.proofs.lemmas.Option.{get_or_from_slice_get, slice_get-get_or}
 use Rattle.ccr_base.specs.declared.messages.Msg.{Msg}
 use Rattle.ccr_base.specs.declared.names.Place.TheVariants as places
 use Rattle.ccr_base.specs.declared.names.TaskId.{TaskId}
@@ -13,7 +15,8 @@ use Rattle.ccr_wiring.specs.declared.parts.Parts.{Parts}
 use Rattle.ccr_model.specs.declared.history.Event.{Event}
 use Rattle.ccr_model.specs.Posts.{posted}
 use Rattle.ccr_base.proofs.Booleans.{both}
-use Rattle.ccr_model.proofs.Members.{Among, Among-either, Among-left, Among-right, Among-take, Among-kept}
+use Rattle.ccr_base.proofs.Options.{some-below}
+use Rattle.ccr_model.proofs.Members.{Among, Among-at, Among-either, Among-left, Among-right, Among-take, Among-kept, index_of}
 use Rattle.ccr_places.specs.declared.claims.StandingClaim.{StandingClaim}
 use Rattle.ccr_places.specs.declared.notes.ClaimNote.{ClaimNote}
 use Rattle.ccr_places.specs.declared.notes.ClaimNote.TheVariants.{Got, Busy, Short}
@@ -21,6 +24,7 @@ use Rattle.ccr_places.specs.declared.notes.Note.{Note}
 use Rattle.ccr_places.specs.declared.notes.Note.TheVariants as notes
 use Rattle.ccr_places.specs.Ports.{PortState, first_fitting, without_first}
 use Rattle.ccr_places.specs.Ports as ports
+use Rattle.ccr_base.proofs.FirstFitting.{all_without}
 use Rattle.ccr_claim.specs.declared.asks.Ask.{Ask}
 use Rattle.ccr_claim.specs.declared.asks.Ask.TheVariants as asks
 use Rattle.ccr_runs.specs.declared.entries.Entry.{Entry}
@@ -35,13 +39,10 @@ pub among_fitting : (k : ℕ) (pred : Pred) (ms : List Msg) (m : Msg) → Among 
 among_fitting k pred ms m is = Among-kept (λ (x : Msg). holds pred x.value) ms m (Among-take k (fitting pred ms) m is)
 
 among_without : (k : ℕ) (pred : Pred) (ms : List Msg) (m : Msg) → Among m (without_first k pred ms) → Among m ms
-among_without k pred [] m is = is
-among_without k pred (x ∷ ms) m is = by (holds pred x.value && nat_lt 0 k) is (among_without (k - 1) pred ms m) (among_without k pred ms m)
-  where
-    by : (b : Bool) → Among m (if b then without_first (k - 1) pred ms else x ∷ without_first k pred ms) → (Among m (without_first (k - 1) pred ms) → Among m ms) → (Among m (without_first k pred ms) → Among m ms) → Among m (x ∷ ms)
-    by true there one rest = inr (one there)
-    by false (inl same) one rest = inl same
-    by false (inr there) one rest = inr (rest there)
+among_without k pred ms m is =
+    let at = index_of (without_first k pred ms) m is in
+    let all = all_without (λ (x : Msg). Among x ms) k pred ms (λ i d low. Among-at ms i (get_or ms i d) (slice_get-get_or ms i d low)) in
+    subst (λ (x : Msg). Among x ms) (get_or_from_slice_get (without_first k pred ms) at.0 m m at.1) (all at.0 m (some-below (without_first k pred ms) at.0 m at.1))
 
 -- the port keeps its number, and only what was posted to it
 pub record KeepsPosted (h : List Event) (p : ℕ) (port : PortState) : Type 0 where

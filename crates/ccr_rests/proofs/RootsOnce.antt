@@ -18,12 +18,11 @@ use Rattle.ccr_wiring.specs.Wirings.{Placement, placement, branch_of}
 use Rattle.ccr_model.specs.Firings.{Firing, fired, firing_named}
 use Rattle.ccr_model.specs.Tasks.{is_branch_where}
 use Rattle.ccr_model.proofs.Allowing.{OneName-legal}
-use Rattle.ccr_base.proofs.Booleans.{both, eq-self, no_both, or_left, same_number}
+use Rattle.ccr_base.proofs.Booleans.{both, eq-self, no_both, same_number}
 use Rattle.ccr_model.proofs.AllowedFirings.{BranchFacts, BranchFacts-where, fired_by_named}
 use Rattle.ccr_model.proofs.FiredTasks.{IsFired, IsFired-append, placement_stays}
 use Rattle.ccr_model.proofs.Members.{Among, Among-either, Among-left, Among-right}
-use Rattle.ccr_base.proofs.SameNames.{same_task-is, same_task-self, has_task-append}
-use Rattle.ccr_model.proofs.TaskLists.{among_left, among_right}
+use Rattle.ccr_base.proofs.SameNames.{same_task-is, has_task-append}
 use Rattle.ccr_model.proofs.WhoWasPut.{placement_by}
 use Rattle.ccr_places.specs.declared.notes.Note.{Note}
 use Rattle.ccr_places.specs.declared.notes.Note.TheVariants as notes
@@ -41,20 +40,21 @@ use Rattle.ccr_runs.specs.EntryRuns.{IsRunAfter, Lacks, made_by, notes_at, port_
 use Rattle.ccr_runs.specs.Views.{domain_of_task}
 use Rattle.ccr_runs.specs.Visible.{event_of, visible}
 use Rattle.ccr_net.proofs.Parts.StepsKeepActors.{unfired}
-use Rattle.ccr_net.proofs.Parts.ArbitersMatch.{fired_there, is_of, none_at_first}
+use Rattle.ccr_net.proofs.Parts.ArbitersMatch.{is_of, none_at_first}
 use Rattle.ccr_net.proofs.Kept.WholeInvariant.{Holds}
 use Rattle.ccr_net.proofs.Parts.TasksAreBookedOnce.{in-less, in-more}
 use Rattle.ccr_net.proofs.Parts.MeterMatches.{bit}
 use Rattle.ccr_net.proofs.Parts.NotesAnswerAsks.{given_some}
+use Rattle.ccr_net.proofs.Conditions.CommitsMeetConditions.{noted_has_fired}
 use Rattle.ccr_net.proofs.Owed.NotedOversAreOver.{is_over_ask, noted_other}
 use Rattle.ccr_net.proofs.Played.PlacesByNumber.{same_place-is}
 use Rattle.ccr_net.proofs.Played.PlayedRunsAreRuns.{run_on}
-use Rattle.ccr_net.proofs.Played.HoldersOfTasksAnswer.{run_holds}
 use Rattle.ccr_net.proofs.Parts.OneMoreEntry.{Step, Step-made, along_run, notes_at-push, visible-push}
 use Rattle.ccr_rests.specs.Ends.{EndsOnce, tells, telling_of}
+use Rattle.ccr_rests.proofs.HeldRuns.{along_held, holds_so}
 use Rattle.ccr_rests.proofs.BookingsOnce.{less}
-use Rattle.ccr_rests.proofs.EntryCounts.{AreOwn, Parted, count, count-first, count-push, ends_once, none_else, own-push, parted}
-use Rattle.ccr_rests.proofs.Fires.{IsFiring, fired_told, firing_told, told_firing}
+use Rattle.ccr_rests.proofs.EntryCounts.{AreOwn, Parted, count, count-push, ends_once, none_else, own-push, parted}
+use Rattle.ccr_rests.proofs.Fires.{IsFiring, firing_told, told_firing, told_there}
 use Rattle.ccr_rests.proofs.Rising.{fires_itself}
 use Rattle.ccr_net.proofs.Owed.OversMayBeNoted.{arbiter-push, domain-push}
 
@@ -235,7 +235,7 @@ module _ (w : Parts) (n : ℕ) (lacks : Lacks) (es : List Entry) (e : Entry) (ho
 
       by : (k : ℕ) → count noted_fired (places.Arbiter i) r es ≡ k → count noted_fired (places.Arbiter i) r es ≡ 0
       by zero at = at
-      by (suc k) at = absurd (no_both (subst (λ t. has_task (fired (visible es)) t ≡ true) (fires_itself w n lacks es e holds step r firing.spot firing.messages firing.cuts firing.noted) (fired_told (places.Arbiter i) r es (omega (arith, at)))) (unfired w (visible es) (port_at es) e.actor (state_of w lacks es e.actor) (holds.actors e.actor).claims))
+      by (suc k) at = absurd (no_both (subst (λ t. has_task (fired (visible es)) t ≡ true) (fires_itself w n lacks es e holds step r firing.spot firing.messages firing.cuts firing.noted) (noted_has_fired es (places.Arbiter i) r (told_there (places.Arbiter i) r es (omega (arith, at))))) (unfired w (visible es) (port_at es) e.actor (state_of w lacks es e.actor) (holds.actors e.actor).claims))
 
   once_on : (i : ℕ) (r : TaskId) → count noted_fired (places.Arbiter i) r (es ++ e ∷ []) ≤ 1
   once_on i r = by (tells noted_fired (places.Arbiter i) r e) refl
@@ -303,39 +303,11 @@ at_arbiter w place earlier ask note r is has = by (is_over_ask ask) refl
     by true at = (let found = over_asked ask at in of_place place found.0 found.1 found.2 (subst (λ x. note_of w place earlier x ≡ Some note) found.3 is))
     by false at = absurd (over_told note r has (noted_other w place earlier ask note at is))
 
-fired_at_it : (i : ℕ) (r : TaskId) (es : List Entry) → 1 ≤ count noted_fired (places.Arbiter i) r es → has_task (fired_there (notes_at es (places.Arbiter i))) r ≡ true
-fired_at_it i r [] some = absurd (omega (arith, some))
-fired_at_it i r (e ∷ es) some = by (same_place e.place (places.Arbiter i)) refl (count-first noted_fired (places.Arbiter i) r e es) (fired_at_it i r es)
-  where
-    of_firing : IsFiring e.note r → has_task (noted_fired e.note) r ≡ true
-    of_firing is = ap (λ x. has_task (noted_fired x) r) is.noted ∙ or_left (same_task r r) false (same_task-self r)
-
-    of_told : (c : Bool) → has_task (noted_fired e.note) r ≡ c → count noted_fired (places.Arbiter i) r (e ∷ es) ≡ bit (true && c) + count noted_fired (places.Arbiter i) r es → (1 ≤ count noted_fired (places.Arbiter i) r es → has_task (fired_there (notes_at es (places.Arbiter i))) r ≡ true) → has_task (noted_fired e.note ++ fired_there (notes_at es (places.Arbiter i))) r ≡ true
-    of_told true told sums rest = among_left (noted_fired e.note) (fired_there (notes_at es (places.Arbiter i))) r (of_firing (firing_told e.note r told))
-    of_told false told sums rest = among_right (noted_fired e.note) (fired_there (notes_at es (places.Arbiter i))) r (rest (omega (arith, sums, some)))
-
-    by : (b : Bool) → same_place e.place (places.Arbiter i) ≡ b → count noted_fired (places.Arbiter i) r (e ∷ es) ≡ bit (b && has_task (noted_fired e.note) r) + count noted_fired (places.Arbiter i) r es → (1 ≤ count noted_fired (places.Arbiter i) r es → has_task (fired_there (notes_at es (places.Arbiter i))) r ≡ true) → has_task (fired_there ((if b then e.note ∷ [] else []) ++ notes_at es (places.Arbiter i))) r ≡ true
-    by false at first rest = rest (omega (arith, first, some))
-    by true at first rest = of_told (has_task (noted_fired e.note) r) refl first rest
-
 -- ---- the law
 
 module _ (w : Parts) (workers : ℕ) (lacks : Lacks) (valid : IsValid w) (few : workers ≤ 16) where
-  holds_so : (es : List Entry) → IsRunAfter w workers lacks [] es → Holds w (length w.posters + workers) lacks es
-  holds_so es run = (run_holds w workers lacks es valid few run).holds
-
-  record RunKnown (es : List Entry) : Type 0 where
-    run : IsRunAfter w workers lacks [] es
-    roots : RootsKnown w es
-
-  run_known : (es : List Entry) → IsRunAfter w workers lacks [] es → RunKnown es
-  run_known es run = along_run w workers lacks RunKnown kept (record { run = tt; roots = record { balanced = λ i r. (let none = may_first w i (slice_get w.arbiters i) r in omega (arith, none)); once = λ i r. omega arith; own = λ x is t has. absurd is } }) es run
-    where
-      kept : (past : List Entry) (e : Entry) → RunKnown past → e.actor < length w.posters + workers → made_by w lacks past e.actor ≡ Some e → RunKnown (past ++ e ∷ [])
-      kept past e known low made = record {
-        run = run_on w workers lacks [] past e known.run low made;
-        roots = roots_known-kept w (length w.posters + workers) lacks past e (holds_so past known.run) (Step-made w lacks past e made) known.roots;
-      }
+  run_known : (es : List Entry) → IsRunAfter w workers lacks [] es → RootsKnown w es
+  run_known = along_held w workers lacks valid few (RootsKnown w) (roots_known-kept w (length w.posters + workers) lacks) (record { balanced = λ i r. (let none = may_first w i (slice_get w.arbiters i) r in omega (arith, none)); once = λ i r. omega arith; own = λ x is t has. absurd is })
 
   module _ (past : List Entry) (e : Entry) (more : List Entry) (run : IsRunAfter w workers lacks [] (past ++ e ∷ more)) where
     parts : Parted w workers lacks past e more
@@ -354,7 +326,7 @@ module _ (w : Parts) (workers : ℕ) (lacks : Lacks) (valid : IsValid w) (few : 
 
       over_then : (count noted_fired (places.Arbiter i) r past ≡ 1) × (count noted_over (places.Arbiter i) r past ≡ 0)
       over_then =
-          let known = (run_known past parts.run).roots in
+          let known = run_known past parts.run in
           let before = known.balanced i r in
           let once = known.once i r in
           let change = entry_may w lacks past e step i r in
@@ -364,16 +336,16 @@ module _ (w : Parts) (workers : ℕ) (lacks : Lacks) (valid : IsValid w) (few : 
 
       pub root_once : EndsOnce noted_fired noted_over (places.Arbiter i) r past e more
       root_once =
-          let all = (run_known (past ++ e ∷ more) run).roots in
+          let all = run_known (past ++ e ∷ more) run in
           let few_fired = all.once i r in
           let sums = all.balanced i r in
-          ends_once noted_fired noted_over (places.Arbiter i) r past e more (run_known past parts.run).roots.own is over_then.0 over_then.1 few_fired (omega (arith, few_fired, sums))
+          ends_once noted_fired noted_over (places.Arbiter i) r past e more (run_known past parts.run).own is over_then.0 over_then.1 few_fired (omega (arith, few_fired, sums))
 
       -- the root fired at a branch of this arbiter
       named : (f : Firing) × (firing_named (visible past) r ≡ Some f) × (is_branch_where w (is_of i) f.spot ≡ true)
       named =
-          let holds = holds_so past parts.run in
-          fired_by_named w (is_of i) (visible past) r (OneName-legal w (visible past) holds.legal) (ap (λ ts. has_task ts r) (sym (holds.arbiters i)) ∙ fired_at_it i r past (let one = over_then.0 in omega (arith, one)))
+          let holds = holds_so w workers lacks valid few past parts.run in
+          fired_by_named w (is_of i) (visible past) r (OneName-legal w (visible past) holds.legal) (ap (λ ts. has_task ts r) (sym (holds.arbiters i)) ∙ told_there (places.Arbiter i) r past (let one = over_then.0 in omega (arith, one)))
 
       its_arbiter : domain_of_task w (visible past) r ≡ i
       its_arbiter = ap (λ o. option_map_or (λ (s : Placement). s.domain) o 0) (placement_by w (visible past) r named.0 named.1 ∙ ap (λ s. placement w (branch_of s)) facts.is_branch ∙ facts.is_placement) ∙ same_number facts.placement.domain i facts.passes

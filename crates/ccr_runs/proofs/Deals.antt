@@ -18,6 +18,8 @@ use Rattle.ccr_runs.specs.Merges.{held, tag, tagged, history_at}
 use Rattle.ccr_runs.specs.Orders.{put_in, in_order, merged}
 use Rattle.ccr_runs.proofs.InOrder.{each_ordered, merged_parts}
 use Rattle.ccr_runs.proofs.Sorting.{tagged_inside}
+use Rattle.ccr_base.proofs.Options.{get-set_same, get-set_other}
+use Rattle.std.specs.Option.{unwrap_or}
 
 module _ {N : Type 0} where
   -- the keys stand in the order of their acts
@@ -40,16 +42,10 @@ module _ {N : Type 0} where
 
   -- one history in the place of another
   set_same : (histories : List (List (Held N))) (k : ℕ) (history : List (Held N)) → k < length histories → left_at (slice_set histories k history) k ≡ history
-  set_same [] k history low = absurd (omega (arith, low))
-  set_same (other ∷ histories) zero history low = refl
-  set_same (other ∷ histories) (suc k) history low = set_same histories k history (omega (arith, low))
+  set_same histories k history low = ap (λ o. unwrap_or o []) (get-set_same histories k history low)
 
   set_other : (histories : List (List (Held N))) (k n : ℕ) (history : List (Held N)) → k ≢ n → left_at (slice_set histories k history) n ≡ left_at histories n
-  set_other [] k n history apart = refl
-  set_other (other ∷ histories) zero zero history apart = absurd (apart refl)
-  set_other (other ∷ histories) zero (suc n) history apart = refl
-  set_other (other ∷ histories) (suc k) zero history apart = refl
-  set_other (other ∷ histories) (suc k) (suc n) history apart = set_other histories k n history (λ e. apart (ap suc e))
+  set_other histories k n history apart = ap (λ o. unwrap_or o []) (get-set_other histories k history n (λ e. apart (sym e)))
 
   -- acts of which each place's part is what is left there are what is dealt
   abbrev ArePartsOf : List (Act N) → List (List (Held N)) → Type 0

@@ -1,10 +1,10 @@
 -- Each request of an expansion has one answer, once all is still.
-use Rattle.std.proofs.Common.{◌≡◌, ◌⊎◌, inl, inr, ℕ, zero, suc, ◌<◌, ◌≤◌, Bool, true, false, not, ◌&&◌, List, [], ◌∷◌, ◌++◌, length, filter, Option, Some, None, find, refl, sym, ap, ◌∙◌, arith, subst}
+use Rattle.std.proofs.Common.{◌≡◌, ◌⊎◌, inl, inr, ℕ, ◌≤◌, Bool, true, false, not, ◌&&◌, List, [], ◌∷◌, ◌++◌, length, filter, Option, Some, None, find, refl, sym, ap, ◌∙◌, arith, subst}
 use Rattle.std.specs.Prelude.{◌==◌, if◌then◌else◌, nat_lt, option_map, Contains}
 use Rattle.std.specs.List.{slice_get}
 use Rattle.std.specs.Option.{option_map_or}
 use Rattle.std.proofs.lemmas.Bool.Decides.{nat_tests}
-use lib.ListN.{get_or}
+use Rattle.std.proofs.lemmas.Option.{slice_get-get_or}
 use Rattle.ccr_base.specs.declared.names.TaskId.{TaskId}
 use Rattle.ccr_base.specs.declared.names.MsgId.{MsgId}
 use Rattle.ccr_base.specs.declared.names.MsgId.TheVariants.{Script, Task}
@@ -35,7 +35,7 @@ use Rattle.ccr_model.specs.Counts.{is_shed as is_shed_end}
 use Rattle.ccr_model.proofs.Allowing.{OneName-legal}
 use Rattle.ccr_base.proofs.Booleans.{both, no_both, or_left, or_right, refuted, eq-self, not_true, same_number, or_none}
 use Rattle.ccr_base.proofs.Options.{some-below}
-use Rattle.ccr_model.proofs.Members.{Among, Among-right, Among-filter}
+use Rattle.ccr_model.proofs.Members.{Among, Among-right, Among-at, Among-filter, same_filter}
 use Rattle.ccr_model.proofs.PostNames.{refused_not}
 use Rattle.ccr_base.proofs.SameNames.{same_message-is, same_values}
 use Rattle.ccr_base.proofs.Filters.{more_kept}
@@ -119,10 +119,6 @@ its_play s h legal client index part ask op is_client is_ask is_op t its =
     both_some o a b = cc
 
 -- ---- the responses are what the task posted
-
-same_filter : (p q : Msg → Bool) (ms : List Msg) → ((m : Msg) → Among m ms → p m ≡ q m) → filter p ms ≡ filter q ms
-same_filter p q [] all = refl
-same_filter p q (m ∷ ms) all = let here = all m (inl refl) in let rest = same_filter p q ms (λ x is. all x (inr is)) in rw (here, rest) refl
 
 -- what the task of a request posts goes to a port of responses
 reply_port : (s : ServiceParts) (op : ℕ) (part : OpPart) (client value : ℕ) (x : Sent) → (reply s op part client value).posts ≡ x ∷ [] → is_response_port s client op x.port ≡ true
@@ -324,12 +320,7 @@ by_held s h client index ask op its is =
     both_some o a b = cc
 
     contained : (ms : List Msg) (m : Msg) → Contains ms m → Among m ms
-    contained ms m has = at_place ms has.0 has.1 has.2
-      where
-        at_place : (xs : List Msg) (i : ℕ) → i < length xs → get_or xs i m ≡ m → Among m xs
-        at_place [] i lt at = absurd (omega (arith, lt))
-        at_place (x ∷ xs) zero lt at = inl (sym at)
-        at_place (x ∷ xs) (suc i) lt at = inr (at_place xs i (omega (arith, lt)) at)
+    contained ms m has = Among-at ms has.0 m (slice_get-get_or ms has.0 m has.1 ∙ ap Some has.2)
 
 -- ---- no other answer
 

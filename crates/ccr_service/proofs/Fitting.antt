@@ -1,5 +1,5 @@
 -- The expansion of each service is valid.
-use Rattle.std.proofs.Common.{◌≡◌, inl, inr, ℕ, suc, ◌+◌, ◌<◌, ◌≤◌, Bool, true, false, not, ◌||◌, List, [], ◌∷◌, ◌++◌, length, map, cond, Option, Some, None, refl, sym, ap, ◌∙◌, arith, subst, append-nil}
+use Rattle.std.proofs.Common.{◌≡◌, inl, inr, ℕ, suc, ◌+◌, ◌<◌, ◌≤◌, Bool, true, false, not, ◌||◌, List, [], ◌∷◌, ◌++◌, length, map, Option, Some, None, refl, sym, ap, ◌∙◌, arith, subst, append-nil}
 use Rattle.std.specs.Prelude.{◌==◌, codes, if◌then◌else◌, nat_lt}
 use Rattle.std.specs.List.{list_any, list_all, slice_get}
 use Rattle.std.proofs.lemmas.List.{length-append, length-map}
@@ -29,7 +29,7 @@ use Rattle.ccr_wiring.specs.Wirings.{actions_of, awaited}
 use Rattle.ccr_wiring.proofs.Crowds.{times_append}
 use Rattle.ccr_base.proofs.Booleans.{both, no_both, same_number, not_true, eq-self, none_or_false}
 use Rattle.ccr_base.proofs.Options.{some-below}
-use Rattle.ccr_model.proofs.Members.{Among, Among-at}
+use Rattle.ccr_model.proofs.Members.{Among, Among-at, all_pass}
 use Rattle.ccr_service.specs.declared.parts.AskPart.{AskPart}
 use Rattle.ccr_service.specs.declared.parts.ClientPart.{ClientPart}
 use Rattle.ccr_service.specs.declared.parts.OpPart.{OpPart}
@@ -38,7 +38,7 @@ use Rattle.ccr_service.specs.Expansion.{request_port, response_port, op_ports, p
 use Rattle.ccr_service.specs.Served.{asks_in_all}
 use Rattle.ccr_service.specs.Services.{IsService, is_service_op, is_service_expr, are_asked}
 use Rattle.ccr_service.proofs.Shape.{Role, Serves, serves_some, serves_by, handlers_length, some_bounded, op_actions, fault_actions}
-use Rattle.ccr_service.proofs.Naming.{names_apart, names_formed, all_pass}
+use Rattle.ccr_service.proofs.Naming.{names_apart, names_formed}
 
 none_any : {X : Type 0} (p : X → Bool) (xs : List X) → ((x : X) → Among x xs → p x ≡ false) → list_any p xs ≡ false
 none_any p [] none = refl

@@ -26,8 +26,10 @@ use Rattle.ccr_wiretext.specs.Reading.{at_line}
 use Rattle.ccr_wiretext.proofs.ReadTellsSteps.{bind_ok as then_ok, ok_is}
 use Rattle.ccr_wiretext.proofs.FieldsRead.{within_said}
 use Rattle.ccr_base.proofs.Booleans.{both, no_both}
+use Rattle.ccr_base.proofs.Options.{none_is}
 use Rattle.ccr_base.proofs.Lists.{all_more}
 use Rattle.ccr_model.proofs.Members.{Among, Among-either, all_from, Among-last}
+use Rattle.ccr_model.proofs.Pigeons.{Apart}
 use Rattle.ccr_service.specs.declared.names.OpOrClient.{OpOrClient}
 use Rattle.ccr_service.specs.declared.names.OpOrClient.TheVariants as named
 use Rattle.ccr_service.specs.declared.parts.AskPart.{AskPart}
@@ -41,7 +43,6 @@ use Rattle.ccr_service.specs.Reading.{So, is_version, after_words, after_all, af
 use Rattle.ccr_service.specs.Grammar.{IsNew}
 use Rattle.ccr_service.specs.Served.{asks_in_all}
 use Rattle.ccr_service.specs.Services.{IsService, is_service_name, op_names, client_names, service_names, is_service_expr, is_service_op, are_asked}
-use Rattle.ccr_service.proofs.Pigeons.{Apart}
 use Rattle.ccr_service.proofs.Naming.{apart_append, not_repeated}
 
 -- ---- steps
@@ -60,11 +61,7 @@ new_said names words p e =
     let b = then_ok (unless (is_service_name a.0.0) 14) _ p a.2 in
     let c = then_ok (unless (not (is_some (meaning_of names a.0.0))) 6) _ p b.2 in
     let same : a.0 ≡ p = ok_is _ _ c.2 in
-    subst (NewSaid names words) same (record { spelled = word_ok words a.0 a.1; new = record { formed = unless_ok (is_service_name a.0.0) 14 b.0 b.1; new = none (meaning_of names a.0.0) (unless_ok _ 6 c.0 c.1) } })
-  where
-    none : (o : Option OpOrClient) → not (is_some o) ≡ true → o ≡ None
-    none None is = refl
-    none (Some n) is = absurd (cc)
+    subst (NewSaid names words) same (record { spelled = word_ok words a.0 a.1; new = record { formed = unless_ok (is_service_name a.0.0) 14 b.0 b.1; new = none_is (meaning_of names a.0.0) (unless_ok _ 6 c.0 c.1) } })
 
 pub record OpSaid (names : Naming) (words : Words) (p : ℕ × Words) : Type 0 where
   pub name : List ℕ

@@ -6,7 +6,6 @@ pub mod OnlyTeardownsCut
 pub mod WhatExpansionsPost
 pub mod Takings
 pub mod Plays
-pub mod Pigeons
 pub mod Replying
 pub mod NobodyIsShed
 pub mod Asking

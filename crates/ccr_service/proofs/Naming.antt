@@ -12,14 +12,14 @@ use Rattle.ccr_text.specs.Words.{is_name_of, may_be_in_name}
 use Rattle.ccr_wiring.specs.declared.parts.BranchPart.{BranchPart}
 use Rattle.ccr_wiring.specs.declared.parts.HandlerPart.{HandlerPart}
 use Rattle.ccr_wiring.specs.Names.{branch_names, cause_names, handler_names, poster_names, declared_names, has_name, has_repeated, has_malformed, has_repeated_name, has_malformed_name}
-use Rattle.ccr_base.proofs.Booleans.{both, neither, either, no_both, or_left, or_right, refuted, same_number, not_true}
-use Rattle.ccr_model.proofs.Members.{Among, Among-left, Among-right, Among-either, Among-map}
+use Rattle.ccr_base.proofs.Booleans.{both, neither, no_both, refuted, same_number, not_true}
+use Rattle.ccr_model.proofs.Members.{Among, Among-left, Among-right, Among-either, Among-map, all_pass, some_among, any_among, spread_some, both_among}
+use Rattle.ccr_model.proofs.Pigeons.{Apart}
 use Rattle.ccr_service.specs.declared.parts.ClientPart.{ClientPart}
 use Rattle.ccr_service.specs.declared.parts.OpPart.{OpPart}
 use Rattle.ccr_service.specs.declared.parts.ServiceParts.{ServiceParts}
 use Rattle.ccr_service.specs.Expansion.{op_ports, ports, causes_from, handlers_from, handlers, fault_handler, is_bounded, op_branches, branches_from, posters_from, expansion}
 use Rattle.ccr_service.specs.Services.{is_service_name, op_names, client_names, service_names, IsService}
-use Rattle.ccr_service.proofs.Pigeons.{Apart}
 
 -- ---- names in two parts
 
@@ -92,13 +92,10 @@ apart_append (x ∷ xs) ys a b none = (fresh, apart_append xs ys a.1 b (λ y is 
         of_side (inr there) = none x (inl refl) there
 
 pub name_among : (names : List (List ℕ)) (name : List ℕ) → has_name names name ≡ true → Among name names
-name_among [] name is = absurd (cc)
-name_among (x ∷ names) name is = either (bytes_eq x name) (has_name names name) is (Among name (x ∷ names)) (λ here. inl (sym ((bytes_decides x name).0 here))) (λ later. inr (name_among names name later))
+name_among names name is = let found = some_among (λ other. bytes_eq other name) names is in subst (λ x. Among x names) ((bytes_decides found.0 name).0 found.2) found.1
 
 among_name : (names : List (List ℕ)) (name : List ℕ) → Among name names → has_name names name ≡ true
-among_name [] name is = absurd is
-among_name (x ∷ names) name (inl e) = or_left (bytes_eq x name) (has_name names name) ((bytes_decides x name).1 (sym e))
-among_name (x ∷ names) name (inr more) = or_right (bytes_eq x name) (has_name names name) (among_name names name more)
+among_name names name is = any_among (λ other. bytes_eq other name) names name is ((bytes_decides name name).1 refl)
 
 pub not_repeated : (names : List (List ℕ)) → Apart names → has_repeated names ≡ false
 not_repeated [] apart = refl
@@ -126,14 +123,6 @@ parts_apart (y ∷ xs) ys apart x (inr here) there = parts_apart xs ys apart.1 x
 -- what each makes has its base
 abbrev KeepsBase : {X : Type 0} → (X → List ℕ) → (X → List (List ℕ)) → List X → Type 0
 KeepsBase {X} name make xs = (x : X) → Among x xs → (n : List ℕ) → Among n (make x) → base n ≡ name x
-
-spread_some : {X : Type 0} (make : X → List (List ℕ)) (xs : List X) (n : List ℕ) → Among n (flat_map make xs) → (x : X) × Among x xs × Among n (make x)
-spread_some make [] n is = absurd is
-spread_some make (x ∷ xs) n is = of_side (Among-either n (make x) (flat_map make xs) is) (spread_some make xs n)
-  where
-    of_side : Among n (make x) ⊎ Among n (flat_map make xs) → (Among n (flat_map make xs) → (y : _) × Among y xs × Among n (make y)) → (y : _) × Among y (x ∷ xs) × Among n (make y)
-    of_side (inl here) later = (x, inl refl, here)
-    of_side (inr there) later = let it = later there in (it.0, inr it.1, it.2)
 
 spread_apart : {X : Type 0} (name : X → List ℕ) (make : X → List (List ℕ)) (xs : List X) → KeepsBase name make xs → ((x : X) → Among x xs → Apart (make x)) → Apart (map name xs) → Apart (flat_map make xs)
 spread_apart name make [] keeps each apart = tt
@@ -290,11 +279,6 @@ declared_are s =
     of_map (x ∷ xs) b = ap (λ ns. x.name ∷ ns) (of_map xs b)
 
 -- ---- none twice
-
-pub all_pass : {X : Type 0} (p : X → Bool) (xs : List X) (x : X) → list_all p xs ≡ true → Among x xs → p x ≡ true
-all_pass p [] x all is = absurd is
-all_pass p (y ∷ xs) x all (inl e) = ap p e ∙ (both (p y) (list_all p xs) all).0
-all_pass p (y ∷ xs) x all (inr more) = all_pass p xs x (both (p y) (list_all p xs) all).1 more
 
 plain_ops : (s : ServiceParts) → IsService s → ArePlain op_name s.ops
 plain_ops s is op among = plain_name op.name (all_pass is_service_name (service_names s) op.name is.formed (Among-left op.name (op_names s.ops) (client_names s.clients) (Among-map op_name s.ops op among)))
@@ -489,11 +473,7 @@ abbrev AreNames : List (List ℕ) → Type 0
 AreNames names = (n : List ℕ) → Among n names → is_name_of n ≡ true
 
 names_both : (xs ys : List (List ℕ)) → AreNames xs → AreNames ys → AreNames (xs ++ ys)
-names_both xs ys a b n is = of_side (Among-either n xs ys is)
-  where
-    of_side : Among n xs ⊎ Among n ys → is_name_of n ≡ true
-    of_side (inl here) = a n here
-    of_side (inr there) = b n there
+names_both = both_among (λ n. is_name_of n ≡ true)
 
 none_malformed : (names : List (List ℕ)) → AreNames names → has_malformed names ≡ false
 none_malformed [] all = refl

@@ -1,5 +1,5 @@
 -- Nobody is shed: the tasks of all requests together post no more than the budget.
-use Rattle.std.proofs.Common.{◌≡◌, ◌⊎◌, inl, inr, ℕ, zero, suc, ◌+◌, ◌≤◌, Bool, true, false, not, ◌&&◌, ◌||◌, List, [], ◌∷◌, ◌++◌, length, filter, flat_map, Some, None, refl, sym, ap, ◌∙◌, arith, subst, append-nil}
+use Rattle.std.proofs.Common.{◌≡◌, inl, inr, ℕ, zero, suc, ◌+◌, ◌≤◌, Bool, true, false, not, ◌&&◌, ◌||◌, List, [], ◌∷◌, ◌++◌, length, filter, flat_map, Some, None, refl, sym, ap, ◌∙◌, arith, subst, append-nil}
 use Rattle.std.specs.Prelude.{◌==◌, if◌then◌else◌, nat_lt}
 use Rattle.std.specs.List.{slice_get}
 use Rattle.std.proofs.lemmas.List.{length-append}
@@ -23,7 +23,8 @@ use Rattle.ccr_model.specs.Rules.{refusal_of_post, is_play_post, may_end}
 use Rattle.ccr_model.specs.Legal.{IsAllowed, IsLegal, has_shed, is_complete, are_whole_from}
 use Rattle.ccr_model.proofs.Allowing.{OneName-legal}
 use Rattle.ccr_base.proofs.Booleans.{both, no_both, or_left, refuted, same_number}
-use Rattle.ccr_model.proofs.Members.{Among, Among-left, Among-right, Among-either, some_kept}
+use Rattle.ccr_model.proofs.Members.{Among, Among-left, Among-right, some_kept, spread_some}
+use Rattle.ccr_model.proofs.Pigeons.{Apart, no_longer}
 use Rattle.ccr_model.proofs.PostNames.{refused_not, times, posted_once}
 use Rattle.ccr_model.proofs.LegalParts.{along_legal}
 use Rattle.ccr_model.proofs.OneMoreEvent.{posts-push, ended-push}
@@ -39,7 +40,6 @@ use Rattle.ccr_service.specs.declared.parts.ClientPart.{ClientPart}
 use Rattle.ccr_service.specs.declared.parts.ServiceParts.{ServiceParts}
 use Rattle.ccr_service.specs.Expansion.{expansion}
 use Rattle.ccr_service.specs.Served.{asks_in_all}
-use Rattle.ccr_service.proofs.Pigeons.{Apart, no_longer}
 use Rattle.ccr_service.proofs.Plays.{TakesAsk-legal}
 use Rattle.ccr_service.proofs.Replying.{running_fired, one_play, all_replies, its_name}
 use Rattle.ccr_laws.proofs.Ending.{fired-length as fired_length}
@@ -248,12 +248,7 @@ named_length (f ∷ fs) each =
     all ∙ ap suc rest
 
 named_some : (fs : List Firing) (n : MsgId) → Among n (named_by fs) → (f : Firing) × Among f fs × Among n f.messages
-named_some [] n is = absurd is
-named_some (f ∷ fs) n is = of_side (Among-either n f.messages (named_by fs) is) (named_some fs n)
-  where
-    of_side : Among n f.messages ⊎ Among n (named_by fs) → (Among n (named_by fs) → (g : Firing) × Among g fs × Among n g.messages) → (g : Firing) × Among g (f ∷ fs) × Among n g.messages
-    of_side (inl here) rest = (f, inl refl, here)
-    of_side (inr more) rest = let it = rest more in (it.0, inr it.1, it.2)
+named_some fs n is = spread_some (λ (f : Firing). f.messages) fs n is
 
 names_apart : (ns : List MsgId) → ((name : MsgId) → times_named name ns ≤ 1) → Apart ns
 names_apart [] once = tt

@@ -22,7 +22,7 @@ use Rattle.ccr_model.specs.Legal.{IsAllowed, IsLegal}
 use Rattle.ccr_base.proofs.Booleans.{both, no_both}
 use Rattle.ccr_base.proofs.Options.{some_of}
 use Rattle.ccr_model.proofs.Members.{Among, Among-either, Among-filter}
-use Rattle.ccr_model.proofs.PostNames.{refused_not, times, posted_once}
+use Rattle.ccr_model.proofs.PostNames.{IsPost, IsPost-test, refused_not, times, posted_once}
 use Rattle.ccr_model.proofs.LegalParts.{along_legal}
 use Rattle.ccr_model.proofs.OneMoreEvent.{posts-push, started-push}
 use Rattle.ccr_base.proofs.SameNames.{same_message-self, same_task-is}
@@ -34,7 +34,6 @@ use Rattle.ccr_model.proofs.WhoWasPut.{started_fired}
 use Rattle.ccr_service.specs.declared.parts.ServiceParts.{ServiceParts}
 use Rattle.ccr_service.specs.Expansion.{expansion}
 use Rattle.ccr_service.specs.Replies.{posted_by}
-use Rattle.ccr_service.proofs.WhatExpansionsPost.{IsPost, IsPost-test}
 use Rattle.ccr_service.proofs.Plays.{TakesAsk-legal, play_is, one_post}
 
 -- who runs has fired

@@ -15,7 +15,7 @@ use Rattle.ccr_model.specs.declared.history.Event.{Event}
 use Rattle.ccr_model.specs.Firings.{cut, dropped}
 use Rattle.ccr_model.specs.Fates.{taker}
 use Rattle.ccr_model.specs.Legal.{IsLegal, IsQuiet, is_complete}
-use Rattle.ccr_model.proofs.Members.{Among-at}
+use Rattle.ccr_model.proofs.Members.{Among-at, all_pass}
 use Rattle.ccr_service.specs.declared.answer.Answer.{Answer}
 use Rattle.ccr_service.specs.declared.answer.Answer.TheVariants as told
 use Rattle.ccr_service.specs.declared.parts.AskPart.{AskPart}
@@ -29,7 +29,6 @@ use Rattle.ccr_service.specs.Served.{asks_in_all}
 use Rattle.ccr_service.specs.Services.{IsService, are_asked}
 use Rattle.ccr_service.specs.Answered.{answer_of}
 use Rattle.ccr_service.specs.Telling.{name_of, Tells, told_by, told_from, told_asks, told_clients, first_post, answers_from, clients_answers, answers_of}
-use Rattle.ccr_service.proofs.Naming.{all_pass}
 use Rattle.ccr_service.proofs.Answering.{request_of, told_quickly_so}
 
 -- no client asks more than all do

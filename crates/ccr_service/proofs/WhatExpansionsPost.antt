@@ -1,5 +1,5 @@
 -- Which messages an expansion's history has: requests, as the clients ask, and what tasks post elsewhere.
-use Rattle.std.proofs.Common.{◌≡◌, ◌⊎◌, inl, inr, ℕ, zero, suc, ◌+◌, ◌<◌, true, false, ◌&&◌, List, [], ◌∷◌, ◌++◌, length, map, Option, Some, None, refl, sym, ap, ◌∙◌, arith, subst, append-nil, option_to_list}
+use Rattle.std.proofs.Common.{◌≡◌, inl, inr, ℕ, zero, suc, ◌+◌, ◌<◌, false, ◌&&◌, List, [], ◌∷◌, ◌++◌, length, map, Option, Some, None, refl, sym, ap, ◌∙◌, arith, subst, option_to_list}
 use Rattle.std.specs.Prelude.{◌==◌, option_map, option_and_then}
 use Rattle.std.specs.List.{slice_get}
 use Rattle.std.specs.Option.{option_map_or}
@@ -12,8 +12,7 @@ use Rattle.ccr_base.specs.declared.messages.Sent.{Sent}
 use Rattle.ccr_base.specs.declared.handlers.Action.{Action}
 use Rattle.ccr_base.specs.declared.handlers.Action.TheVariants as actions
 use Rattle.ccr_base.specs.declared.handlers.Expr.TheVariants.{Arg}
-use Rattle.ccr_base.specs.Names.{has_task, same_lists}
-use Rattle.ccr_base.specs.Values.{same_value}
+use Rattle.ccr_base.specs.Names.{has_task}
 use Rattle.ccr_handler.specs.Playing.{play, exceptions}
 use Rattle.ccr_handler.specs.Evaluating.{value_of}
 use Rattle.ccr_wiring.specs.declared.parts.Parts.{Parts}
@@ -21,20 +20,18 @@ use Rattle.ccr_wiring.specs.declared.parts.PosterPart.{PosterPart}
 use Rattle.ccr_wiring.specs.declared.parts.CausePart.{CausePart}
 use Rattle.ccr_wiring.specs.Wirings.{Placement, placement, branch_of, segment_of, actions_of, exception_port}
 use Rattle.ccr_model.specs.declared.history.Event.{Event}
-use Rattle.ccr_model.specs.declared.history.Event.TheVariants.{Post, Fire, Admit, Put, Start, End}
-use Rattle.ccr_model.specs.Posts.{posts, post_of, posts_of_poster, posts_of_task, message_named}
+use Rattle.ccr_model.specs.declared.history.Event.TheVariants.{Post}
+use Rattle.ccr_model.specs.Posts.{posts, posts_of_poster, posts_of_task, message_named}
 use Rattle.ccr_model.specs.Firings.{Firing, firing_named}
 use Rattle.ccr_model.specs.TaskData.{Load, play_of, play_at, load_at, no_play}
 use Rattle.ccr_model.specs.Tasks.{running}
 use Rattle.ccr_model.specs.Rules.{refusal_of_post, is_script_line, is_play_post, is_post}
-use Rattle.ccr_model.specs.Legal.{IsAllowed, IsLegal}
-use Rattle.ccr_base.proofs.Booleans.{both, same_number}
+use Rattle.ccr_model.specs.Legal.{IsLegal}
+use Rattle.ccr_base.proofs.Booleans.{both}
 use Rattle.ccr_base.proofs.Options.{some_of, some_then}
-use Rattle.ccr_base.proofs.SameNames.{same_numbers-is, same_values}
-use Rattle.ccr_model.proofs.Members.{Among, Among-either}
-use Rattle.ccr_model.proofs.PostNames.{refused_not, posted_once}
-use Rattle.ccr_model.proofs.LegalParts.{along_legal}
-use Rattle.ccr_model.proofs.OneMoreEvent.{posts-push}
+use Rattle.ccr_model.proofs.Members.{Among}
+use Rattle.ccr_model.proofs.PostNames.{IsPost-test, refused_not, posted_once}
+use Rattle.ccr_model.proofs.PostedMessages.{each_posted}
 use Rattle.ccr_model.proofs.MessageNames.{found_once}
 use Rattle.ccr_service.specs.declared.parts.AskPart.{AskPart}
 use Rattle.ccr_service.specs.declared.parts.ClientPart.{ClientPart}
@@ -67,17 +64,6 @@ ask_at : (client k : ℕ) (asks : List AskPart) (x : Sent) → slice_get (map (r
 ask_at client k [] x is = absurd (cc)
 ask_at client zero (a ∷ asks) x is = (a, refl, cc)
 ask_at client (suc k) (a ∷ asks) x is = ask_at client k asks x is
-
-pub record IsPost (m : Msg) (x : Sent) : Type 0 where
-  pub port : m.port ≡ x.port
-  pub value : m.value ≡ x.value
-  pub causes : m.causes ≡ x.causes
-
-pub IsPost-test : (m : Msg) (x : Sent) → is_post m x ≡ true → IsPost m x
-IsPost-test m x is =
-    let parts = both ((m.port == x.port) && same_value m.value x.value) (same_lists (λ c d. c == d) m.causes x.causes) is in
-    let first = both (m.port == x.port) (same_value m.value x.value) parts.0 in
-    record { port = same_number m.port x.port first.0; value = same_values m.value x.value first.1; causes = same_numbers-is m.causes x.causes parts.1 }
 
 asked_now : (s : ServiceParts) (h : List Event) (m : Msg) (client index : ℕ) → refusal_of_post (expansion s) h m (Script client index) ≡ None → IsAsked s m client index
 asked_now s h m client index allowed =
@@ -170,27 +156,8 @@ known_by : (s : ServiceParts) (h : List Event) → IsLegal (expansion s) h → (
 known_by s h legal m (Script client index) allowed = asked_now s h m client index allowed
 known_by s h legal m (Task t index) allowed = elsewhere_now s h legal m t index allowed
 
-abbrev pub AreKnown : ServiceParts → List Event → Type 0
-AreKnown s h = (m : Msg) → Among m (posts h) → IsKnown s m m.id
-
-no_more_posts : (s : ServiceParts) (h : List Event) (e : Event) → post_of e ≡ [] → AreKnown s h → AreKnown s (h ++ e ∷ [])
-no_more_posts s h e none known m is = known m (subst (Among m) (posts-push h e ∙ ap (λ ms. posts h ++ ms) none ∙ append-nil (posts h)) is)
-
-known_kept : (s : ServiceParts) (h : List Event) (e : Event) → IsLegal (expansion s) h → IsAllowed (expansion s) h e → AreKnown s h → AreKnown s (h ++ e ∷ [])
-known_kept s h (Post x) legal allowed known m is = old_or_new (Among-either m (posts h) (x ∷ []) (subst (Among m) (posts-push h (Post x)) is))
-  where
-    old_or_new : Among m (posts h) ⊎ Among m (x ∷ []) → IsKnown s m m.id
-    old_or_new (inl old) = known m old
-    old_or_new (inr (inl e)) = subst (λ (y : Msg). IsKnown s y y.id) (sym e) (known_by s h legal x x.id allowed)
-    old_or_new (inr (inr none)) = absurd none
-known_kept s h (Fire x sp ms cs) legal allowed known m is = no_more_posts s h (Fire x sp ms cs) refl known m is
-known_kept s h (Admit x) legal allowed known m is = no_more_posts s h (Admit x) refl known m is
-known_kept s h (Put x d) legal allowed known m is = no_more_posts s h (Put x d) refl known m is
-known_kept s h (Start x a) legal allowed known m is = no_more_posts s h (Start x a) refl known m is
-known_kept s h (End x how) legal allowed known m is = no_more_posts s h (End x how) refl known m is
-
 pub all_known : (s : ServiceParts) (h : List Event) → IsLegal (expansion s) h → (m : Msg) → Among m (posts h) → IsKnown s m m.id
-all_known s h legal = along_legal (expansion s) (AreKnown s) (λ g e l a k. known_kept s g e l a k) (λ m is. absurd is) h legal
+all_known s h legal = each_posted (expansion s) (λ (m : Msg). IsKnown s m m.id) (λ g m lawful known allowed. known_by s g lawful m m.id allowed) h legal
 
 -- ---- a message is found by its name
 

@@ -109,7 +109,7 @@ impl ServiceDraft {
 
     /// policy POLICY.
     #[tactic(auto, unfolding(crate::specs::Drafts::policy_form))]
-    fn policy_form(&self, mut words: Cursor<'_>) -> Result<Policy, Stop>
+    fn policy_form(&self, mut words: Cursor<'_>) -> Result<Policy, Stop<Code>>
         ensures { Gives result (policy_form self.now words.entry) }
     {
         if self.policied {
@@ -122,7 +122,7 @@ impl ServiceDraft {
 
     /// op NAME GROUP EXPR, and below N where it has a bound.
     #[tactic(auto, unfolding(crate::specs::Drafts::op_form))]
-    fn op_form(&self, mut words: Cursor<'_>) -> Result<OpPart, Stop>
+    fn op_form(&self, mut words: Cursor<'_>) -> Result<OpPart, Stop<Code>>
         ensures form { Gives result (op_form self.now words.entry) }
         ensures new { IfOk result (λ part. meaning_of self.now.names part.name ≡ None) }
         ensures room { OnOk result (length self.now.parts.ops < most_ops) }
@@ -145,7 +145,7 @@ impl ServiceDraft {
 
     /// client NAME.
     #[tactic(auto, unfolding(crate::specs::Drafts::client_form))]
-    fn client_form<'a>(&self, mut words: Cursor<'a>) -> Result<&'a [u8], Stop>
+    fn client_form<'a>(&self, mut words: Cursor<'a>) -> Result<&'a [u8], Stop<Code>>
         ensures form { GivesBy (λ name. name.now) result (client_form self.now words.entry) }
         ensures new { IfOk result (λ name. meaning_of self.now.names name.now ≡ None) }
     {
@@ -159,7 +159,7 @@ impl ServiceDraft {
 
     /// ask OP N.
     #[tactic(auto, unfolding(crate::specs::Drafts::ask_form))]
-    fn ask_form(&self, mut words: Cursor<'_>) -> Result<AskPart, Stop>
+    fn ask_form(&self, mut words: Cursor<'_>) -> Result<AskPart, Stop<Code>>
         ensures form { Gives result (ask_form self.now words.entry) }
         ensures room { OnOk result (self.now.asks < most_asks) }
     {
@@ -173,7 +173,7 @@ impl ServiceDraft {
     }
 
     #[tactic(auto, unfolding(crate::specs::Drafts::outside_line))]
-    fn outside_line(&mut self, first: &[u8], words: Cursor<'_>) -> Result<(), Stop>
+    fn outside_line(&mut self, first: &[u8], words: Cursor<'_>) -> Result<(), Stop<Code>>
         ensures { GivesState self.new result (outside_line self.old first.now words.entry) }
     {
         if is_text(first, "policy") {
@@ -192,7 +192,12 @@ impl ServiceDraft {
     }
 
     #[tactic(auto, unfolding(crate::specs::Drafts::client_line))]
-    fn client_line(&mut self, part: ClientPart, first: &[u8], words: Cursor<'_>) -> Result<(), Stop>
+    fn client_line(
+        &mut self,
+        part: ClientPart,
+        first: &[u8],
+        words: Cursor<'_>,
+    ) -> Result<(), Stop<Code>>
         ensures { GivesState self.new result (client_line self.old part first.now words.entry) }
     {
         if is_text(first, "ask") {
@@ -209,7 +214,7 @@ impl ServiceDraft {
 
     /// Takes in a line with these words.
     #[tactic(auto, unfolding(crate::specs::Drafts::line_in))]
-    pub fn line(&mut self, first: &[u8], words: Cursor<'_>) -> Result<(), Stop>
+    pub fn line(&mut self, first: &[u8], words: Cursor<'_>) -> Result<(), Stop<Code>>
         ensures { GivesState self.new result (line_in self.old.block self.old first.now words.entry) }
     {
         match mem::replace(&mut self.block, None) {

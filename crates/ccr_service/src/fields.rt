@@ -13,7 +13,7 @@ use ccr_base::{Expr, Group, Value};
 use ccr_text::{Code, Cursor, Names, Stop, is_text, read_number};
 use ccr_wiring::MAX_ARG;
 
-/// The most bytes of a name behind its first.
+/// The most bytes of a name.
 const MAX_NAME_BYTES: usize = 12;
 
 fn are_alphanumeric(bytes: &[u8]) -> bool
@@ -37,7 +37,10 @@ fn is_service_name(word: &[u8]) -> bool
 
 /// A name that is declared here.
 #[tactic(auto, unfolding(crate::specs::Fields::new_name))]
-pub fn new_name<'a>(words: &mut Cursor<'a>, names: &Names<OpOrClient>) -> Result<&'a [u8], Stop>
+pub fn new_name<'a>(
+    words: &mut Cursor<'a>,
+    names: &Names<OpOrClient>,
+) -> Result<&'a [u8], Stop<Code>>
     ensures name { LeavesBy (λ name. name.now) words.new result (new_name names.now words.old) }
     ensures new { IfOk result (λ name. meaning_of names.now name.now ≡ None) }
 {
@@ -53,7 +56,7 @@ pub fn new_name<'a>(words: &mut Cursor<'a>, names: &Names<OpOrClient>) -> Result
 
 /// The name of an operation.
 #[tactic(auto, unfolding(crate::specs::Fields::op_name))]
-pub fn op_name(words: &mut Cursor<'_>, names: &Names<OpOrClient>) -> Result<u32, Stop>
+pub fn op_name(words: &mut Cursor<'_>, names: &Names<OpOrClient>) -> Result<u32, Stop<Code>>
     ensures { Leaves words.new result (op_name names.now words.old) }
 {
     let name = words.word()?;
@@ -65,7 +68,7 @@ pub fn op_name(words: &mut Cursor<'_>, names: &Names<OpOrClient>) -> Result<u32,
 
 /// teardown, exclusive or concurrent.
 #[tactic(auto, unfolding(crate::specs::Fields::group))]
-pub fn group(words: &mut Cursor<'_>) -> Result<Group, Stop>
+pub fn group(words: &mut Cursor<'_>) -> Result<Group, Stop<Code>>
     ensures { Leaves words.new result (group words.old) }
 {
     let name = words.word()?;
@@ -82,7 +85,7 @@ pub fn group(words: &mut Cursor<'_>) -> Result<Group, Stop>
 
 /// N, arg N, sum or count.
 #[tactic(auto, unfolding(crate::specs::Fields::expr))]
-pub fn expr(words: &mut Cursor<'_>) -> Result<Expr, Stop>
+pub fn expr(words: &mut Cursor<'_>) -> Result<Expr, Stop<Code>>
     ensures { Leaves words.new result (expr words.old) }
 {
     let name = words.word()?;
@@ -102,7 +105,7 @@ pub fn expr(words: &mut Cursor<'_>) -> Result<Expr, Stop>
 
 /// Nothing, or below N.
 #[tactic(auto, unfolding(crate::specs::Fields::bound))]
-pub fn bound(words: &mut Cursor<'_>) -> Result<Option<u64>, Stop>
+pub fn bound(words: &mut Cursor<'_>) -> Result<Option<u64>, Stop<Code>>
     ensures { Leaves words.new result (bound words.old) }
 {
     if words.is_empty() {

@@ -49,7 +49,7 @@ impl ServiceReader {
     }
 
     #[tactic(auto, unfolding(crate::specs::Reading::after_all, crate::specs::Reading::after_words))]
-    fn words(&mut self, words: &[&[u8]]) -> Result<(), Stop>
+    fn words(&mut self, words: &[&[u8]]) -> Result<(), Stop<Code>>
         ensures { GivesState self.new result (after_all self.old (seen words.now)) }
     {
         let Some((first, others)) = words.split_first() else {
@@ -71,7 +71,7 @@ impl ServiceReader {
     }
 
     /// Takes in the words of the next line, which is clean or isn't.
-    fn line(&mut self, clean: bool, words: &[&[u8]]) -> Result<(), Stop>
+    fn line(&mut self, clean: bool, words: &[&[u8]]) -> Result<(), Stop<Code>>
         ensures { GivesState self.new result (after_clean self.old clean (seen words.now)) }
     {
         if !clean {
@@ -81,7 +81,11 @@ impl ServiceReader {
     }
 
     /// Takes in the text's first line, and answers what stands behind it. No word is copied, and all lines use one list of words.
-    fn next<'t>(&mut self, text: &'t [u8], words: &mut Vec<&'t [u8]>) -> Result<&'t [u8], Stop>
+    fn next<'t>(
+        &mut self,
+        text: &'t [u8],
+        words: &mut Vec<&'t [u8]>,
+    ) -> Result<&'t [u8], Stop<Code>>
         requires { text.now ≢ [] }
         ensures taken { IfOk result (λ behind. IsLineTaken self.old text.now self.new behind.now) }
         ensures refused { IfErr result (IsLineRefused self.old text.now) }
@@ -93,7 +97,7 @@ impl ServiceReader {
 
     /// The parts, at the end of the text.
     #[tactic(auto, unfolding(crate::specs::Reading::at_end))]
-    fn end(self) -> Result<ServiceParts, Stop>
+    fn end(self) -> Result<ServiceParts, Stop<Code>>
         ensures { Gives result (at_end self) }
     {
         let ServiceReader { alloc: _, draft } = self;

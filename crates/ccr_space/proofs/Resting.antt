@@ -2,7 +2,7 @@
 use Rattle.std.proofs.Common.{Bool, true, false, ◌≡◌, ℕ, zero, suc, ◌+◌, ◌<◌, List, [], ◌∷◌, ◌++◌, sym, refl, ap, ◌∙◌, subst, arith, eq-eqb, None}
 use Rattle.std.specs.Prelude.{◌==◌, ◌&&◌, ◌||◌, filter, if◌then◌else◌}
 use Rattle.std.specs.List.{list_any, range_with_len}
-use Rattle.std.proofs.lemmas.Grind.{common_steps}
+use Rattle.std.proofs.lemmas.List.Elements.{filter-append}
 use Rattle.std.proofs.Math.Bool.{or-true}
 use mathlib.Core.Option.{some, some-injective, some-ne-none}
 use lib.ListN.{get_elem?}
@@ -16,13 +16,9 @@ use Rattle.ccr_object.specs.declared.deed.Deed.{Deed}
 use Rattle.ccr_object.specs.declared.object.Placed.{Placed}
 use Rattle.ccr_space.specs.Spaces.{Pass, IsGoing, heard_in, is_stopped_in, number, stopped_of}
 
-filter_push : (test : ℕ → Bool) (xs : List ℕ) (x : ℕ) → filter test (xs ++ x ∷ []) ≡ filter test xs ++ (if test x then x ∷ [] else [])
-filter_push test [] x = grind (arith, common_steps)
-filter_push test (y ∷ ys) x = grind (arith, common_steps, filter_push test ys x)
-
 -- of one actor more
 pub stopped_more : (passes : List Pass) (n : ℕ) → stopped_of passes (n + 1) ≡ stopped_of passes n ++ (if is_stopped_in passes n then n ∷ [] else [])
-stopped_more passes n = ap (filter (is_stopped_in passes)) (range-more n) ∙ filter_push (is_stopped_in passes) (range_with_len 0 n) n
+stopped_more passes n = ap (filter (is_stopped_in passes)) (range-more n) ∙ filter-append (is_stopped_in passes) (range_with_len 0 n) (n ∷ [])
 
 any_in : (test : ℕ → Bool) (actor q n : ℕ) → test (q + actor) ≡ true → actor < n → list_any (λ m. m == q + actor) (filter test (range_with_len q n)) ≡ true
 any_in test actor q zero is low = absurd (omega arith)

@@ -1,7 +1,6 @@
 -- No legal history fires a branch more often than a closed list says.
-use Rattle.std.proofs.Common.{◌≡◌, inl, inr, ℕ, zero, suc, ◌+◌, ◌*◌, ◌<◌, ◌≤◌, Bool, true, false, List, [], ◌∷◌, ◌++◌, length, Some, refl, subst, append-nil, arith}
-use Rattle.std.specs.Prelude.{◌==◌, ◌||◌, if◌then◌else◌, nat_lt}
-use Rattle.std.specs.List.{list_any}
+use Rattle.std.proofs.Common.{◌≡◌, ℕ, zero, suc, ◌+◌, ◌*◌, ◌<◌, ◌≤◌, Bool, true, false, List, [], ◌∷◌, ◌++◌, length, Some, refl, subst, append-nil, arith}
+use Rattle.std.specs.Prelude.{◌==◌, if◌then◌else◌, nat_lt}
 use Rattle.std.proofs.lemmas.Bool.Decides.{nat_tests}
 use Rattle.ccr_base.specs.declared.names.Spot.{Spot}
 use Rattle.ccr_base.specs.declared.names.Spot.TheVariants.{Branch, Site}
@@ -17,7 +16,7 @@ use Rattle.ccr_model.specs.Posts.{posts, held}
 use Rattle.ccr_model.specs.Firings.{Firing, firings, firing_of}
 use Rattle.ccr_model.specs.Selection.{is_selection, is_selection_of}
 use Rattle.ccr_model.specs.Legal.{IsAllowed, IsLegal}
-use Rattle.ccr_model.proofs.Members.{Among}
+use Rattle.ccr_model.proofs.Members.{some_among}
 use Rattle.ccr_base.proofs.Options.{some_of}
 use Rattle.ccr_model.proofs.LegalParts.{along_legal}
 use Rattle.ccr_model.proofs.OneMoreEvent.{firings-push}
@@ -27,14 +26,6 @@ use Rattle.ccr_steady.specs.Flow.{posts_weigh, IsSteady, IsClosed, at_port, got,
 use Rattle.ccr_steady.proofs.Paying.{times_at, due}
 use Rattle.ccr_steady.proofs.Sums.{summed_more}
 use Rattle.ccr_steady.proofs.Balance.{balance, took, branch_off, posted_at, times_push}
-
-pub some_among : {X : Type 0} (test : X → Bool) (xs : List X) → list_any test xs ≡ true → (x : X) × Among x xs × (test x ≡ true)
-some_among test [] any = absurd cc
-some_among test (x ∷ xs) any = by (test x) refl any (some_among test xs)
-  where
-    by : (b : Bool) → test x ≡ b → b || list_any test xs ≡ true → (list_any test xs ≡ true → (y : _) × Among y xs × (test y ≡ true)) → (y : _) × Among y (x ∷ xs) × (test y ≡ true)
-    by true e is more = (x, inl refl, e)
-    by false e is more = let found = more is in (found.0, inr found.1, found.2)
 
 abbrev Within : Parts → (ℕ → ℕ) → List Firing → Type 0
 Within w n fs = (b : ℕ) → b < length (placements w) → times_at fs b ≤ n b

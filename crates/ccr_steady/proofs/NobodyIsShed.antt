@@ -26,7 +26,7 @@ use Rattle.ccr_model.proofs.LegalParts.{along_legal}
 use Rattle.ccr_model.proofs.Members.{Among, Among-left, found_among, find_passes}
 use Rattle.ccr_model.proofs.PostNames.{refused_not}
 use Rattle.ccr_model.proofs.OneMoreEvent.{posts-push, firings-push, ended-push, has_shed-push}
-use Rattle.ccr_base.proofs.SameNames.{same_task-is, same_task-self}
+use Rattle.ccr_base.proofs.SameNames.{same_task-is, has_task-last}
 use Rattle.ccr_model.proofs.Ending.{RunningFacts-running}
 use Rattle.ccr_steady.specs.Flow.{posts_weigh, IsSteady, IsClosed, IsFlow, weigh, each, task_posts}
 use Rattle.ccr_laws.specs.Times.{times_fired}
@@ -90,13 +90,9 @@ shed_cheats w steady h t legal allowed =
     record {
       firing = firing.0;
       among = rw firings-push (Among-left firing.0 (firings h) [] (found_among (λ (g : Firing). same_task g.task t) (firings h) firing.0 firing.1));
-      over = rw (ended-push, mine) (last_has (ended h));
+      over = rw (ended-push, mine) (has_task-last (ended h) t);
       owes = rw (posts-push, append-nil, mine) owes;
     }
-  where
-    last_has : (ts : List TaskId) → has_task (ts ++ t ∷ []) t ≡ true
-    last_has [] = rw (same_task-self t) refl
-    last_has (x ∷ ts) = grind (arith, last_has ts)
 
 shed_ends : (w : Parts) → IsSteady w → (h : List Event) (e : Event) → IsLegal w h → IsAllowed w h e → is_shed_end e ≡ true → Cheated w (h ++ e ∷ [])
 shed_ends w steady h (events.End t ends.Shed) legal allowed is = shed_cheats w steady h t legal allowed

@@ -1,18 +1,19 @@
 -- The numbers of a legal history, with the tables that it left, are its counts.
-use Rattle.std.proofs.Common.{◌≡◌, ◌∙◌, ℕ, ◌-◌, ◌<◌, ◌≤◌, false, List, [], ◌∷◌, length, map, Option, Some, None, refl, sym, ap, arith}
+use Rattle.std.proofs.Common.{◌≡◌, ◌∙◌, ℕ, ◌-◌, ◌<◌, ◌≤◌, false, List, length, map, Option, Some, None, refl, sym, ap, arith}
 use Rattle.std.specs.Prelude.{◌==◌, option_map, slice_index}
 use Rattle.std.specs.Option.{option_map_or}
 use Rattle.std.proofs.lemmas.List.{length-map}
 use Rattle.std.proofs.lemmas.List.Elements.{filter_agree}
 use Rattle.ccr_base.specs.declared.names.TaskId.{TaskId}
 use Rattle.ccr_base.specs.declared.names.Spot.{Spot}
+use Rattle.ccr_base.proofs.Lists.{flat_few}
 use Rattle.ccr_wiring.specs.declared.parts.Parts.{Parts}
 use Rattle.ccr_wiring.specs.Wirings.{spots}
 use Rattle.ccr_wiring.specs.Valid.{IsValid}
 use Rattle.ccr_model.specs.declared.history.Event.{Event}
 use Rattle.ccr_model.specs.declared.history.Event.TheVariants as events
-use Rattle.ccr_model.specs.Posts.{posts, taken}
-use Rattle.ccr_model.specs.Firings.{Firing, firings, firing_named, fired_at, cut, put, dropped}
+use Rattle.ccr_model.specs.Posts.{posts, post_of, taken}
+use Rattle.ccr_model.specs.Firings.{Firing, firings, firing_of, firing_named, fired_at, cut, put, dropped}
 use Rattle.ccr_model.specs.Counts.{totals}
 use Rattle.ccr_model.specs.Tasks.{is_for_queue}
 use Rattle.ccr_model.specs.Legal.{IsLegal}
@@ -33,35 +34,27 @@ use Rattle.ccr_telling.proofs.Spots.{spots_same}
 
 -- as many messages were taken as posted, or fewer
 pub few_taken : (w : Parts) → IsValid w → (h : List Event) → IsLegal w h → length (taken h) ≤ length h
-few_taken w valid h legal = omega (arith, held_or_taken w valid h legal, few_posts h)
+few_taken w valid h legal = omega (arith, held_or_taken w valid h legal, flat_few post_of one h)
   where
-    few_posts : (es : List Event) → length (posts es) ≤ length es
-    few_posts [] = omega arith
-    few_posts (e ∷ es) = by e (few_posts es)
-      where
-        by : (e : Event) → length (posts es) ≤ length es → length (posts (e ∷ es)) ≤ length (e ∷ es)
-        by (events.Post m) rest = omega (arith, rest)
-        by (events.Fire t s ms cs) rest = omega (arith, rest)
-        by (events.Admit t) rest = omega (arith, rest)
-        by (events.Put t d) rest = omega (arith, rest)
-        by (events.Start t a) rest = omega (arith, rest)
-        by (events.End t how) rest = omega (arith, rest)
+    one : (e : Event) → length (post_of e) ≤ 1
+    one (events.Post m) = omega arith
+    one (events.Fire t s ms cs) = omega arith
+    one (events.Admit t) = omega arith
+    one (events.Put t d) = omega arith
+    one (events.Start t a) = omega arith
+    one (events.End t how) = omega arith
 
 -- fewer tasks were cut than there are events
 pub few_cuts : (w : Parts) (h : List Event) → IsLegal w h → length (cut h) ≤ length h
-few_cuts w h legal = omega (arith, few_cut w h legal, few_firings h, length-map (firings h) (λ (f : Firing). f.task))
+few_cuts w h legal = omega (arith, few_cut w h legal, flat_few firing_of one h, length-map (firings h) (λ (f : Firing). f.task))
   where
-    few_firings : (es : List Event) → length (firings es) ≤ length es
-    few_firings [] = omega arith
-    few_firings (e ∷ es) = by e (few_firings es)
-      where
-        by : (e : Event) → length (firings es) ≤ length es → length (firings (e ∷ es)) ≤ length (e ∷ es)
-        by (events.Post m) rest = omega (arith, rest)
-        by (events.Fire t s ms cs) rest = omega (arith, rest)
-        by (events.Admit t) rest = omega (arith, rest)
-        by (events.Put t d) rest = omega (arith, rest)
-        by (events.Start t a) rest = omega (arith, rest)
-        by (events.End t how) rest = omega (arith, rest)
+    one : (e : Event) → length (firing_of e) ≤ 1
+    one (events.Post m) = omega arith
+    one (events.Fire t s ms cs) = omega arith
+    one (events.Admit t) = omega arith
+    one (events.Put t d) = omega arith
+    one (events.Start t a) = omega arith
+    one (events.End t how) = omega arith
 
 -- a task's card is on its queue
 pub on_queue : (w : Parts) (h : List Event) (b : Books) → IsLegal w h → KeepsTasks w h b → (q : ℕ) (t : TaskId) → is_on b q t ≡ is_for_queue w h q t

@@ -4,10 +4,13 @@ use Rattle.std.specs.Prelude.{◌==◌, ◌||◌, not}
 use Rattle.std.specs.List.{list_all}
 use Rattle.std.proofs.lemmas.Bool.Decides.{nat_tests}
 use Rattle.std.proofs.lemmas.List.Concat.{flat_map-cons}
-use Rattle.ccr_text.specs.Words.{is_graphic, is_blank, is_clean, pieces, words_of}
+use Rattle.ccr_text.specs.Words.{is_graphic, is_blank, is_clean, words_of}
 use Rattle.ccr_text.specs.Lines.{split_text, numbered_line, numbered, lines_of}
 use Rattle.ccr_text.specs.Spelling.{joined, line_text, text_of, spelled_lines, AreWords, AreLines}
 use Rattle.std.proofs.lemmas.Bool.{and_parts as both}
+use Rattle.ccr_base.proofs.Lists.{all_both, all_weaker}
+use Rattle.ccr_base.proofs.Booleans.{or_right}
+use Rattle.ccr_text.proofs.FirstLine.{pieces_end, pieces_run}
 
 abbrev pub not_feed : ℕ → Bool
 not_feed b = not (b == 10)
@@ -24,29 +27,10 @@ graphic_not_feed : (b : ℕ) → is_graphic b ≡ true → not_feed b ≡ true
 graphic_not_feed b e = grind (arith, nat_tests)
 
 feeds_word : (word rest : List ℕ) → list_all is_graphic word ≡ true → list_all not_feed rest ≡ true → list_all not_feed (word ++ rest) ≡ true
-feeds_word [] rest graphic others = others
-feeds_word (b ∷ word) rest graphic others =
-    let parts = both (is_graphic b) (list_all is_graphic word) graphic in
-    rw (graphic_not_feed b parts.0, feeds_word word rest parts.1 others) refl
+feeds_word word rest graphic others = all_both not_feed word rest (all_weaker is_graphic not_feed graphic_not_feed word graphic) others
 
 clean_word : (word rest : List ℕ) → list_all is_graphic word ≡ true → is_clean rest ≡ true → is_clean (word ++ rest) ≡ true
-clean_word [] rest graphic others = others
-clean_word (b ∷ word) rest graphic others =
-    let parts = both (is_graphic b) (list_all is_graphic word) graphic in
-    let clean : (is_blank b || is_graphic b) ≡ true = grind (arith, nat_tests, parts.0) in
-    rw (clean, clean_word word rest parts.1 others) refl
-
-pieces_word : (word rest : List ℕ) → list_all is_graphic word ≡ true → pieces (word ++ 32 ∷ rest) ≡ word ∷ pieces rest
-pieces_word [] rest graphic = refl
-pieces_word (b ∷ word) rest graphic =
-    let parts = both (is_graphic b) (list_all is_graphic word) graphic in
-    rw (parts.0, pieces_word word rest parts.1) refl
-
-pieces_last : (word : List ℕ) → list_all is_graphic word ≡ true → pieces word ≡ word ∷ []
-pieces_last [] graphic = refl
-pieces_last (b ∷ word) graphic =
-    let parts = both (is_graphic b) (list_all is_graphic word) graphic in
-    rw (parts.0, pieces_last word parts.1) refl
+clean_word word rest graphic others = all_both (λ b. is_blank b || is_graphic b) word rest (all_weaker is_graphic (λ b. is_blank b || is_graphic b) (λ b e. or_right (is_blank b) (is_graphic b) e) word graphic) others
 
 pub joined_feeds : (words : List (List ℕ)) → AreWords words → list_all not_feed (joined words) ≡ true
 joined_feeds [] are = refl
@@ -60,8 +44,8 @@ joined_clean (word ∷ next ∷ words) are = clean_word word (32 ∷ joined (nex
 
 pub joined_words : (words : List (List ℕ)) → AreWords words → words_of (joined words) ≡ words
 joined_words [] are = refl
-joined_words (word ∷ []) are = rw (pieces_last word are.1, are.0) refl
-joined_words (word ∷ next ∷ words) are = rw (pieces_word word (joined (next ∷ words)) are.1, are.0) (ap (λ (v : List (List ℕ)). word ∷ v) (joined_words (next ∷ words) are.2))
+joined_words (word ∷ []) are = rw (pieces_end word are.1, are.0) refl
+joined_words (word ∷ next ∷ words) are = rw (pieces_run word 32 (joined (next ∷ words)) are.1 refl, are.0) (ap (λ (v : List (List ℕ)). word ∷ v) (joined_words (next ∷ words) are.2))
 
 -- each line is found again, with its words
 pub lines_again : (number : ℕ) (lines : List (List (List ℕ))) → AreLines lines → numbered number (split_text (text_of lines)) ≡ spelled_lines number lines

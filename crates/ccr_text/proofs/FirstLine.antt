@@ -53,13 +53,13 @@ clean_run (b ∷ word) line graphic =
     let are = both (is_graphic b) (list_all is_graphic word) graphic in
     rw (clean_graphic b are.0) (clean_run word line are.1)
 
-pieces_run : (word : List ℕ) (c : ℕ) (line : List ℕ) → AllGraphic word → is_graphic c ≡ false → pieces (word ++ c ∷ line) ≡ word ∷ pieces line
+pub pieces_run : (word : List ℕ) (c : ℕ) (line : List ℕ) → AllGraphic word → is_graphic c ≡ false → pieces (word ++ c ∷ line) ≡ word ∷ pieces line
 pieces_run [] c line graphic other = rw other refl
 pieces_run (b ∷ word) c line graphic other =
     let are = both (is_graphic b) (list_all is_graphic word) graphic in
     rw (are.0, pieces_run word c line are.1 other) refl
 
-pieces_end : (word : List ℕ) → AllGraphic word → pieces word ≡ word ∷ []
+pub pieces_end : (word : List ℕ) → AllGraphic word → pieces word ≡ word ∷ []
 pieces_end [] graphic = refl
 pieces_end (b ∷ word) graphic =
     let are = both (is_graphic b) (list_all is_graphic word) graphic in

@@ -1,33 +1,34 @@
 -- The parts of a text between separators: where the first one ends, and words without a separator found again.
 use Rattle.std.proofs.Common.{◌≡◌, ◌≢◌, ℕ, zero, suc, ◌+◌, ◌<◌, Bool, true, false, List, [], ◌∷◌, ◌++◌, get_or, take, drop, length, refl, sym, ap, ◌∙◌, arith}
 use Rattle.std.specs.Prelude.{◌==◌, not}
-use Rattle.std.specs.List.{list_all, join_with_byte}
+use Rattle.std.specs.List.{list_all, join_with_byte, slice_split}
 use Rattle.std.proofs.lemmas.Bool.Decides.{nat_tests}
-use Rattle.std.proofs.lemmas.List.Splits.{join_with_byte-slice_split, length-slice_split}
-use Rattle.ccr_base.proofs.Booleans.{both, eq-self, not_true}
+use Rattle.std.proofs.lemmas.List.Splits.{join_with_byte-slice_split, length-slice_split, slice_split_none}
+use Rattle.ccr_base.proofs.Booleans.{both, eq-self, not_true, not_false, refuted, no_both, same_number}
 use Rattle.ccr_text.specs.Exact.{parts}
+use Rattle.ccr_base.proofs.Lists.{all_weaker}
+use Rattle.std.proofs.lemmas.Grind.{get_or_default_zero}
 
-part_at_suc : (separator : ℕ) (bytes : List ℕ) (i : ℕ) → ((k : ℕ) → k < i → get_or bytes k 0 ≢ separator) → i < length bytes → get_or bytes i 0 ≡ separator → parts separator bytes ≡ take i bytes ∷ parts separator (drop (suc i) bytes)
-part_at_suc separator [] i none below here = absurd (omega arith)
-part_at_suc separator (b ∷ bytes) zero none below here = let same : (b == separator) ≡ true = grind (arith, nat_tests, here) in rw same refl
-part_at_suc separator (b ∷ bytes) (suc i) none below here =
-    let apart : b ≢ separator = none 0 (omega arith) in
-    let other : (b == separator) ≡ false = grind (arith, nat_tests, apart) in
-    let rest : parts separator bytes ≡ take i bytes ∷ parts separator (drop (suc i) bytes) = part_at_suc separator bytes i (λ k h. none (suc k) (omega arith)) (omega arith) here in
-    rw (other, rest) refl
+-- a split at what passes: the first that passes stands at i
+pub split_first : (p : ℕ → Bool) (xs : List ℕ) (i : ℕ) → ((k : ℕ) → k < i → p (get_or xs k 0) ≡ false) → i < length xs → p (get_or xs i 0) ≡ true → slice_split p xs ≡ take i xs ∷ slice_split p (drop (i + 1) xs)
+split_first p [] i none below here = absurd (omega arith)
+split_first p (x ∷ xs) zero none below here = rw here refl
+split_first p (x ∷ xs) (suc i) none below here =
+    let next : suc i + 1 ≡ suc (i + 1) = omega arith in
+    rw (next, none 0 (omega arith), split_first p xs i (λ k h. none (suc k) (omega arith)) (omega arith) here) refl
+
+-- none passes
+pub whole_split : (p : ℕ → Bool) (xs : List ℕ) → ((k : ℕ) → k < length xs → p (get_or xs k 0) ≡ false) → slice_split p xs ≡ xs ∷ []
+whole_split p xs none = slice_split_none p xs (λ k d low. ap p (get_or_default_zero xs k d low) ∙ none k low)
 
 -- the first separator stands at i
 pub part_at : (separator : ℕ) (bytes : List ℕ) (i : ℕ) → ((k : ℕ) → k < i → get_or bytes k 0 ≢ separator) → i < length bytes → get_or bytes i 0 ≡ separator → parts separator bytes ≡ take i bytes ∷ parts separator (drop (i + 1) bytes)
-part_at separator bytes i none below here = let e : i + 1 ≡ suc i = omega arith in rw e (part_at_suc separator bytes i none below here)
+part_at separator bytes i none below here =
+    split_first (λ b. b == separator) bytes i (λ k less. refuted (get_or bytes k 0 == separator) (λ is. none k less (same_number (get_or bytes k 0) separator is))) below (ap (λ n. n == separator) here ∙ eq-self separator)
 
 -- there is none
 pub part_whole : (separator : ℕ) (bytes : List ℕ) → ((k : ℕ) → k < length bytes → get_or bytes k 0 ≢ separator) → parts separator bytes ≡ bytes ∷ []
-part_whole separator [] none = refl
-part_whole separator (b ∷ bytes) none =
-    let apart : b ≢ separator = none 0 (omega arith) in
-    let other : (b == separator) ≡ false = grind (arith, nat_tests, apart) in
-    let rest : parts separator bytes ≡ bytes ∷ [] = part_whole separator bytes (λ k h. none (suc k) (omega arith)) in
-    rw (other, rest) refl
+part_whole separator bytes none = whole_split (λ b. b == separator) bytes (λ k low. refuted (get_or bytes k 0 == separator) (λ is. none k low (same_number (get_or bytes k 0) separator is)))
 
 -- no byte is the separator
 abbrev pub lacks : ℕ → List ℕ → Bool
@@ -48,18 +49,11 @@ part_alone separator (b ∷ word) e =
     rw (not_true (b == separator) at.0, part_alone separator word at.1) refl
 
 by_test : (test : ℕ → Bool) (separator b : ℕ) → test separator ≡ false → test b ≡ true → not (b == separator) ≡ true
-by_test test separator b none is = of_same (b == separator) refl
-  where
-    of_same : (t : Bool) → (b == separator) ≡ t → not t ≡ true
-    of_same false e = refl
-    of_same true e = absurd (let same : b ≡ separator = grind (arith, nat_tests, e) in let clash : true ≡ false = sym is ∙ (ap test same ∙ none) in cc)
+by_test test separator b none is = not_false (b == separator) (refuted (b == separator) (λ same. no_both is (ap test (same_number b separator same) ∙ none)))
 
 -- bytes that pass a test that the separator doesn't pass
 pub lacks_tested : (test : ℕ → Bool) (separator : ℕ) (bytes : List ℕ) → test separator ≡ false → list_all test bytes ≡ true → lacks separator bytes ≡ true
-lacks_tested test separator [] none e = refl
-lacks_tested test separator (b ∷ bytes) none e =
-    let at = both (test b) (list_all test bytes) e in
-    rw (by_test test separator b none at.0, lacks_tested test separator bytes none at.1) refl
+lacks_tested test separator bytes none e = all_weaker test (λ b. not (b == separator)) (λ b is. by_test test separator b none is) bytes e
 
 -- there is one part at least
 pub parts_some : (separator : ℕ) (bytes : List ℕ) → (length (parts separator bytes) == 0) ≡ false

@@ -1,11 +1,12 @@
 -- Where the first line ends.
 use Rattle.std.proofs.Common.{◌≡◌, ◌≢◌, ℕ, zero, suc, ◌+◌, ◌<◌, ◌≤◌, List, [], ◌∷◌, ◌++◌, get_or, take, drop, length, refl, ap, arith, ◌∙◌, Some}
 use Rattle.std.proofs.lemmas.Bool.Decides.{nat_tests}
-use Rattle.std.specs.Prelude.{true, false}
+use Rattle.std.specs.Prelude.{true, false, not}
 use Rattle.std.proofs.lemmas.Option.{slice_get-get_or}
 use Rattle.ccr_text.specs.Lines.{split_text, has_feed}
 use Rattle.ccr_text.specs.Words.{is_graphic, pieces}
 use Rattle.ccr_base.proofs.Options.{parted}
+use Rattle.ccr_text.proofs.Parts.{split_first, whole_split}
 
 split_at_suc : (text : List ℕ) (i : ℕ) → ((k : ℕ) → k < i → get_or text k 0 ≢ 10) → i < length text → get_or text i 0 ≡ 10 → split_text text ≡ take i text ∷ split_text (drop (suc i) text)
 split_at_suc [] i none below here = absurd (omega arith)
@@ -51,22 +52,10 @@ no_feeds (b ∷ bytes) none =
 pub parts_at : (text : List ℕ) (i : ℕ) → i < length text → get_or text i 0 ≡ 10 → text ≡ take i text ++ 10 ∷ drop (i + 1) text
 parts_at text i below here = parted text i 10 (slice_get-get_or text i 0 below ∙ ap Some here)
 
-pieces_at_suc : (line : List ℕ) (i : ℕ) → ((k : ℕ) → k < i → is_graphic (get_or line k 0) ≡ true) → i < length line → is_graphic (get_or line i 0) ≡ false → pieces line ≡ take i line ∷ pieces (drop (suc i) line)
-pieces_at_suc [] i graphic below here = absurd (omega arith)
-pieces_at_suc (b ∷ bytes) zero graphic below here = rw here refl
-pieces_at_suc (b ∷ bytes) (suc i) graphic below here =
-    let first : is_graphic b ≡ true = graphic 0 (omega arith) in
-    let rest : pieces bytes ≡ take i bytes ∷ pieces (drop (suc i) bytes) = pieces_at_suc bytes i (λ k h. graphic (suc k) (omega arith)) (omega arith) here in
-    rw (first, rest) refl
-
 -- the first byte that is not graphic stands at i
 pub pieces_at : (line : List ℕ) (i : ℕ) → ((k : ℕ) → k < i → is_graphic (get_or line k 0) ≡ true) → i < length line → is_graphic (get_or line i 0) ≡ false → pieces line ≡ take i line ∷ pieces (drop (i + 1) line)
-pieces_at line i graphic below here = let e : i + 1 ≡ suc i = omega arith in rw e (pieces_at_suc line i graphic below here)
+pieces_at line i graphic below here = split_first (λ b. not (is_graphic b)) line i (λ k less. ap not (graphic k less)) below (ap not here)
 
 -- there is none
 pub pieces_whole : (line : List ℕ) → ((k : ℕ) → k < length line → is_graphic (get_or line k 0) ≡ true) → pieces line ≡ line ∷ []
-pieces_whole [] graphic = refl
-pieces_whole (b ∷ bytes) graphic =
-    let first : is_graphic b ≡ true = graphic 0 (omega arith) in
-    let rest : pieces bytes ≡ bytes ∷ [] = pieces_whole bytes (λ k h. graphic (suc k) (omega arith)) in
-    rw (first, rest) refl
+pieces_whole line graphic = whole_split (λ b. not (is_graphic b)) line (λ k low. ap not (graphic k low))

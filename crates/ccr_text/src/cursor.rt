@@ -41,7 +41,7 @@ impl<'a> Cursor<'a> {
     }
 
     /// The next word.
-    pub fn word(&mut self) -> Result<&'a [u8], Stop>
+    pub fn word(&mut self) -> Result<&'a [u8], Stop<Code>>
         ensures { LeavesBy (λ word. word.now) self.new result (word self.old) }
     {
         let Some(word) = self.words.get(self.taken) else {
@@ -52,7 +52,7 @@ impl<'a> Cursor<'a> {
     }
 
     /// Refuses a word more.
-    pub fn no_more(&self) -> Result<(), Stop>
+    pub fn no_more(&self) -> Result<(), Stop<Code>>
         ensures { Gives result (no_more self.now) }
     {
         if !self.is_empty() {
@@ -62,7 +62,7 @@ impl<'a> Cursor<'a> {
     }
 
     #[tactic(auto, unfolding(crate::specs::Fields::number))]
-    pub fn number(&mut self) -> Result<u64, Stop>
+    pub fn number(&mut self) -> Result<u64, Stop<Code>>
         ensures { Leaves self.new result (number self.old) }
     {
         let digits = self.word()?;
@@ -74,7 +74,7 @@ impl<'a> Cursor<'a> {
 
     /// A number between two bounds, which are within them.
     #[tactic(auto, unfolding(crate::specs::Fields::number_within))]
-    pub fn number_within(&mut self, low: u32, high: u32) -> Result<u32, Stop>
+    pub fn number_within(&mut self, low: u32, high: u32) -> Result<u32, Stop<Code>>
         ensures { Leaves self.new result (number_within low high self.old) }
     {
         let value = self.number()?;
@@ -86,7 +86,7 @@ impl<'a> Cursor<'a> {
 
     /// unbounded, discard N or throttle N, with N from 1 to `most`.
     #[tactic(auto, unfolding(crate::specs::Fields::policy))]
-    pub fn policy(&mut self, most: u32) -> Result<Policy, Stop>
+    pub fn policy(&mut self, most: u32) -> Result<Policy, Stop<Code>>
         ensures { Leaves self.new result (policy most self.old) }
     {
         let name = self.word()?;

@@ -3,37 +3,36 @@
 ghost use Rattle.std.specs.Prelude.{◌≡◌};
 ghost use Rattle.ccr_text.specs.declared.stop.Stop.TheVariants.{Memory};
 
-use crate::Code;
 use ccr_base::OutOfMemory;
 use std::alloc::{AllocError, AllocFailed};
 
-/// A line is refused, or no memory was left.
+/// A line is refused, for what the text's reader finds wrong with it, or no memory was left.
 #[derive(Clone, Copy, PartialEq, Eq)]
-pub enum Stop {
+pub enum Stop<C> {
     Memory,
-    Refused(Code),
+    Refused(C),
 }
 
-impl From<AllocError> for Stop {
+impl<C> From<AllocError> for Stop<C> {
     ghost from_gives = { λ _ e. e ≡ Memory };
 
-    fn from(_: AllocError) -> Stop {
+    fn from(_: AllocError) -> Stop<C> {
         Stop::Memory
     }
 }
 
-impl From<OutOfMemory> for Stop {
+impl<C> From<OutOfMemory> for Stop<C> {
     ghost from_gives = { λ _ e. e ≡ Memory };
 
-    fn from(_: OutOfMemory) -> Stop {
+    fn from(_: OutOfMemory) -> Stop<C> {
         Stop::Memory
     }
 }
 
-impl<T: Drop> From<AllocFailed<T>> for Stop {
+impl<C, T: Drop> From<AllocFailed<T>> for Stop<C> {
     ghost from_gives = { λ _ e. e ≡ Memory };
 
-    fn from(_: AllocFailed<T>) -> Stop {
+    fn from(_: AllocFailed<T>) -> Stop<C> {
         Stop::Memory
     }
 }

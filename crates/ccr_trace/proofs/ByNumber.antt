@@ -1,5 +1,5 @@
 -- Names by their numbers, and numbers by their names.
-use Rattle.std.proofs.Common.{◌≡◌, ℕ, zero, suc, ◌<◌, Bool, true, false, cond, List, [], ◌∷◌, length, Some, None, refl, sym, ap, ◌∙◌, arith}
+use Rattle.std.proofs.Common.{◌≡◌, ℕ, zero, suc, ◌<◌, Bool, true, false, cond, List, [], ◌∷◌, length, Some, None, refl, sym, ap, ◌∙◌, arith, get_or}
 use Rattle.std.specs.Prelude.{not, nat_lt}
 use Rattle.std.specs.List.{list_any, position_or_len}
 use Rattle.std.specs.Str.{bytes_eq}
@@ -9,11 +9,12 @@ use Rattle.ccr_wiring.specs.Names.{has_name, has_repeated}
 use Rattle.ccr_trace.specs.Words.{name_at}
 use Rattle.ccr_trace.specs.Said.{IsName}
 use Rattle.ccr_trace.specs.Known.{number_in}
-use Rattle.ccr_trace.proofs.ReadTellsSteps.{some_is}
 use Rattle.std.proofs.lemmas.Bool.{or_parts as neither}
 use Rattle.ccr_base.proofs.Texts.{same_word, same_text}
+use Rattle.std.proofs.lemmas.Option.{unwrap_or-slice_get, cond_some}
+use Rattle.std.proofs.lemmas.List.Sums.{passes_at_first}
 
-abbrev index_of : List (List ℕ) → List ℕ → ℕ
+abbrev pub index_of : List (List ℕ) → List ℕ → ℕ
 index_of names word = position_or_len (λ name. bytes_eq word name) names
 
 here : (name : List ℕ) (names : List (List ℕ)) (word : List ℕ) → bytes_eq word name ≡ true → index_of (name ∷ names) word ≡ 0
@@ -24,21 +25,10 @@ later name names word e = rw e (omega arith)
 
 -- the name at the index where it is found
 found_at : (names : List (List ℕ)) (word : List ℕ) → index_of names word < length names → name_at names (index_of names word) ≡ word
-found_at [] word below = absurd (omega arith)
-found_at (name ∷ names) word below = by (bytes_eq word name) refl (found_at names word)
-  where
-    by : (t : Bool) → bytes_eq word name ≡ t → (index_of names word < length names → name_at names (index_of names word) ≡ word) → name_at (name ∷ names) (index_of (name ∷ names) word) ≡ word
-    by true is next = ap (name_at (name ∷ names)) (here name names word is) ∙ sym (same_word word name is)
-    by false is next =
-        let index = later name names word is in
-        ap (name_at (name ∷ names)) index ∙ next (omega arith)
+found_at names word below = unwrap_or-slice_get names (index_of names word) [] ∙ sym (same_word word (get_or names (index_of names word) []) (passes_at_first (λ name. bytes_eq word name) names [] below))
 
-number_of_index : (p count n : ℕ) → cond (nat_lt p count) (Some p) None ≡ Some n → (p ≡ n) × (p < count)
-number_of_index p count n e = by (nat_lt p count) refl e
-  where
-    by : (t : Bool) → nat_lt p count ≡ t → cond t (Some p) None ≡ Some n → (p ≡ n) × (p < count)
-    by false is e' = absurd cc
-    by true is e' = (some_is p n e', grind (arith, nat_tests, is))
+pub number_of_index : (p count n : ℕ) → cond (nat_lt p count) (Some p) None ≡ Some n → (p ≡ n) × (p < count)
+number_of_index p count n e = let found = cond_some (nat_lt p count) p n e in (found.1, let is = found.0 in grind (arith, nat_tests, is))
 
 -- a number that is found is that of the name
 pub name_at-number : (names : List (List ℕ)) (word : List ℕ) (n : ℕ) → number_in names word ≡ Some n → name_at names n ≡ word

@@ -1,9 +1,7 @@
 -- What is known is in the wiring.
-use Rattle.std.proofs.Common.{◌≡◌, ℕ, ◌<◌, Bool, true, false, cond, List, [], ◌∷◌, length, Option, Some, None, Ok, inl, inr, refl, sym, ap, subst, arith}
-use Rattle.std.specs.Prelude.{nat_lt, is_some, IsSome}
-use Rattle.std.specs.List.{All, position_or_len}
-use Rattle.std.specs.Str.{bytes_eq}
-use Rattle.std.proofs.lemmas.Bool.Decides.{nat_tests}
+use Rattle.std.proofs.Common.{◌≡◌, ℕ, ◌<◌, List, [], ◌∷◌, length, Option, Some, None, Ok, inl, inr, refl, sym, ap, subst, arith}
+use Rattle.std.specs.Prelude.{is_some, IsSome}
+use Rattle.std.specs.List.{All}
 use Rattle.std.proofs.lemmas.List.{length-map}
 use Rattle.std.proofs.lemmas.List.Elements.{All-nil, All-cons}
 use Rattle.ccr_base.specs.declared.names.Spot.{Spot}
@@ -28,13 +26,10 @@ use Rattle.ccr_trace.specs.Reading.{event_of, event_on}
 use Rattle.ccr_trace.proofs.ReadTellsSteps.{bind_some, some_is, only_one}
 use Rattle.ccr_trace.proofs.Apart.{length-branch_names}
 use Rattle.ccr_trace.proofs.FormsSaid.{line_told}
+use Rattle.ccr_trace.proofs.ByNumber.{index_of, number_of_index}
 
 pub number_within : (names : List (List ℕ)) (word : List ℕ) (n : ℕ) → number_in names word ≡ Some n → n < length names
-number_within names word n e = by (position_or_len (λ name. bytes_eq word name) names) refl (nat_lt (position_or_len (λ name. bytes_eq word name) names) (length names)) refl e
-  where
-    by : (p : ℕ) → position_or_len (λ name. bytes_eq word name) names ≡ p → (t : Bool) → nat_lt p (length names) ≡ t → cond t (Some p) None ≡ Some n → n < length names
-    by p is false below e' = absurd cc
-    by p is true below e' = let same : p ≡ n = some_is p n e' in grind (arith, nat_tests, below, same)
+number_within names word n e = let at = number_of_index (index_of names word) (length names) n e in let same = at.0 in let low = at.1 in omega (arith, same, low)
 
 -- each word that is read is good
 each_good : {A : Type 0} (read : List ℕ → Option A) (Good : A → Type 0) → ((w : List ℕ) (x : A) → read w ≡ Some x → Good x) → (words : Words) (values : List A) → each read words ≡ Some values → All Good values

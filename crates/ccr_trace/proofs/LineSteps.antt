@@ -5,8 +5,10 @@ use Rattle.std.specs.Str.{bytes_eq}
 use Rattle.std.proofs.lemmas.Bool.Decides.{nat_tests}
 use Rattle.ccr_wiring.specs.declared.parts.Parts.{Parts}
 use Rattle.ccr_model.specs.declared.history.Event.{Event}
-use Rattle.ccr_trace.specs.declared.unread.Unread.{Unread}
-use Rattle.ccr_trace.specs.declared.unread.Unread.TheVariants as stops
+use Rattle.ccr_text.specs.declared.stop.Stop.{Stop}
+use Rattle.ccr_text.specs.declared.stop.Stop.TheVariants as stops
+use Rattle.ccr_trace.specs.declared.line_fault.LineFault.{LineFault}
+use Rattle.ccr_trace.specs.declared.line_fault.LineFault.TheVariants as faults
 use Rattle.ccr_trace.specs.declared.refused.HistoryRefused.{HistoryRefused}
 use Rattle.ccr_trace.specs.declared.refused.HistoryRefused.TheVariants as refusals
 use Rattle.ccr_trace.specs.declared.reading.ReadHistory.{ReadHistory}
@@ -49,11 +51,11 @@ reading_stops parts read line [] code e other is = absurd cc
 reading_stops parts read line (next ∷ rest) code e other is = rw (other, is) refl
 
 -- what is answered there
-pub stopped : (parts : Parts) (read : ReadHistory) (line : List ℕ) (rest : List (List ℕ)) (stop : Unread) (whole : Result ReadHistory (ℕ × ℕ)) → (length rest == 0) ≡ false → bytes_eq line (codes "report 1") ≡ false → HasCode stop (event_on parts line)
+pub stopped : (parts : Parts) (read : ReadHistory) (line : List ℕ) (rest : List (List ℕ)) (stop : Stop LineFault) (whole : Result ReadHistory (ℕ × ℕ)) → (length rest == 0) ≡ false → bytes_eq line (codes "report 1") ≡ false → HasCode stop (event_on parts line)
     → reading_from parts read (line ∷ rest) ≡ whole → IsReading (Err (refused (read.lines + 1) stop)) whole
 stopped parts read line rest stops.Memory whole e other is same = tt
-stopped parts read line rest stops.Malformed whole e other is same = sym same ∙ reading_stops parts read line rest 1 e other is
-stopped parts read line rest stops.Unknown whole e other is same = sym same ∙ reading_stops parts read line rest 2 e other is
+stopped parts read line rest (stops.Refused faults.Malformed) whole e other is same = sym same ∙ reading_stops parts read line rest 1 e other is
+stopped parts read line rest (stops.Refused faults.Unknown) whole e other is same = sym same ∙ reading_stops parts read line rest 2 e other is
 
 -- what is answered at the end of the text
 pub end_answered : (refusal : HistoryRefused) (at : ℕ × ℕ) (whole : Result ReadHistory (ℕ × ℕ)) → IsRefusal refusal at → whole ≡ Err at → IsReading (Err refusal) whole

@@ -1,5 +1,5 @@
 -- What a field or form that was read tells of its steps.
-use Rattle.std.proofs.Common.{◌≡◌, ℕ, ◌<◌, ◌≤◌, Bool, true, false, cond, List, [], ◌∷◌, length, map, Option, Some, None, refl, sym, ap, ◌∙◌, ◌^◌, arith}
+use Rattle.std.proofs.Common.{◌≡◌, ℕ, ◌<◌, ◌≤◌, Bool, true, false, List, [], ◌∷◌, length, map, Option, Some, refl, sym, ap, ◌∙◌, ◌^◌, arith}
 use Rattle.std.specs.Prelude.{nat_lt, nat_le, decimal}
 use Rattle.std.specs.Str.{bytes_eq}
 use Rattle.std.proofs.lemmas.Bool.Decides.{nat_tests}
@@ -11,6 +11,7 @@ use Rattle.ccr_trace.specs.Pieces.{pieces}
 use Rattle.ccr_trace.specs.Forms.{word, no_more, only, field, is_some_of}
 use Rattle.ccr_text.specs.Fields.{Words}
 use Rattle.ccr_text.proofs.Parts.{parts_some}
+use Rattle.std.proofs.lemmas.Option.{cond_some}
 
 pub bind_some : {A B : Type 0} (found : Option A) (next : A → Option B) (y : B) → (found >>= next) ≡ Some y → (x : A) × (found ≡ Some x) × (next x ≡ Some y)
 bind_some found next y e = some_then next found y e
@@ -50,29 +51,13 @@ is_some_of-some [] e = absurd (omega arith)
 is_some_of-some (x ∷ values) e = grind (arith, nat_tests)
 
 pub spelled_is : (w : List ℕ) (n m : ℕ) → where_spelled w n ≡ Some m → (n ≡ m) × (decimal m ≡ w)
-spelled_is w n m e = by (bytes_eq w (decimal n)) refl e
-  where
-    by : (t : Bool) → bytes_eq w (decimal n) ≡ t → cond t (Some n) None ≡ Some m → (n ≡ m) × (decimal m ≡ w)
-    by false is e' = absurd cc
-    by true is e' =
-        let same : n ≡ m = some_is n m e' in
-        (same, ap decimal (sym same) ∙ sym (same_word w (decimal n) is))
+spelled_is w n m e = let found = cond_some (bytes_eq w (decimal n)) n m e in (found.1, ap decimal (sym found.1) ∙ sym (same_word w (decimal n) found.0))
 
 pub short_is : (n m : ℕ) → where_short n ≡ Some m → (n ≡ m) × (m < 2 ^ 32)
-short_is n m e = by (nat_lt n (2 ^ 32)) refl e
-  where
-    by : (t : Bool) → nat_lt n (2 ^ 32) ≡ t → cond t (Some n) None ≡ Some m → (n ≡ m) × (m < 2 ^ 32)
-    by false is e' = absurd cc
-    by true is e' =
-        let same : n ≡ m = some_is n m e' in
-        (same, grind (arith, nat_tests, is, same))
+short_is n m e = let found = cond_some (nat_lt n (2 ^ 32)) n m e in (found.1, let is = found.0 in let same = found.1 in grind (arith, nat_tests, is, same))
 
 pub few_is : (most : ℕ) (numbers value : List ℕ) → where_few most numbers ≡ Some value → (numbers ≡ value) × (length numbers ≤ most)
-few_is most numbers value e = by (nat_le (length numbers) most) refl e
-  where
-    by : (t : Bool) → nat_le (length numbers) most ≡ t → cond t (Some numbers) None ≡ Some value → (numbers ≡ value) × (length numbers ≤ most)
-    by false is e' = absurd cc
-    by true is e' = (some_is numbers value e', grind (arith, nat_tests, is))
+few_is most numbers value e = let found = cond_some (nat_le (length numbers) most) numbers value e in (found.1, let is = found.0 in grind (arith, nat_tests, is))
 
 -- what is spelled by the pieces is one at least
 pub some_pieces : {A : Type 0} (separator : ℕ) (bytes : List ℕ) (values : List A) (spell : A → List ℕ) → map spell values ≡ pieces separator bytes → 0 < length values

@@ -1,5 +1,5 @@
 -- What a handler of version 1 posts, and with what it fails, is single where the values that it reads are.
-use Rattle.std.proofs.Common.{◌⊎◌, inl, inr, ◌≡◌, ℕ, false, List, [], ◌∷◌, Option, Some, None, refl, sym, subst}
+use Rattle.std.proofs.Common.{inl, inr, ◌≡◌, ℕ, false, List, [], ◌∷◌, Option, Some, None, refl, sym, subst}
 use Rattle.std.specs.Prelude.{option_map, option_to_list}
 use Rattle.std.specs.List.{list_any}
 use Rattle.ccr_base.specs.declared.handlers.Action.{Action}
@@ -14,7 +14,7 @@ use Rattle.ccr_handler.specs.Playing.{exceptions, play}
 use Rattle.ccr_wiring.specs.Versions.{action_is_newer, expr_is_newer}
 use Rattle.ccr_model.specs.TaskData.{no_play}
 use Rattle.ccr_base.proofs.Booleans.{neither}
-use Rattle.ccr_model.proofs.Members.{Among, Among-either}
+use Rattle.ccr_model.proofs.Members.{Among, spread_some}
 use Rattle.ccr_trace.specs.Values.{IsSingle}
 use Rattle.ccr_trace.proofs.SingleValues.{AreSingle, value_single}
 
@@ -37,17 +37,12 @@ no_play_single = record { posts = λ sent is. absurd is; end = λ value is. absu
 
 module _ (port_of : ℕ → Option ℕ) where
   exceptions_single : (value : List ℕ) (causes : List ℕ) → IsSingle value → (sent : Sent) → Among sent (exceptions port_of value causes) → IsSingle sent.value
-  exceptions_single value [] single sent is = absurd is
-  exceptions_single value (c ∷ causes) single sent is = of (Among-either sent (option_to_list (option_map (λ port. record { port = port; value = value; causes = [] }) (port_of c))) (exceptions port_of value causes) is) (exceptions_single value causes single sent)
+  exceptions_single value causes single sent is = let it = spread_some _ causes sent is in one (port_of it.0) it.2
     where
       one : (o : Option ℕ) → Among sent (option_to_list (option_map (λ port. record { port = port; value = value; causes = [] }) o)) → IsSingle sent.value
       one None there = absurd there
       one (Some port) (inl e) = subst (λ (s : Sent). IsSingle s.value) (sym e) single
       one (Some port) (inr there) = absurd there
-
-      of : Among sent (option_to_list (option_map (λ port. record { port = port; value = value; causes = [] }) (port_of c))) ⊎ Among sent (exceptions port_of value causes) → (Among sent (exceptions port_of value causes) → IsSingle sent.value) → IsSingle sent.value
-      of (inl here) rest = one (port_of c) here
-      of (inr later) rest = rest later
 
   pub play_single : (values : List (List ℕ)) (site : ℕ) (causes : List ℕ) (acts : List Action) → list_any action_is_newer acts ≡ false → AreSingle values → IsPlaySingle (play port_of values site causes acts)
   play_single values site causes [] old single = record { posts = λ sent is. absurd is; end = λ value is. absurd (no_failure plays.Done value refl is) }

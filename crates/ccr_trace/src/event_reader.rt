@@ -12,11 +12,11 @@ ghost use Rattle.ccr_trace.specs.Reading.{ended, head, line_limit, reading, read
 use crate::first::is_first_line;
 use crate::forms::event_on;
 use crate::known::Known;
+use crate::line_fault::LineFault;
 use crate::pieces::Pieces;
 use crate::refused::{HistoryCode, HistoryRefused};
-use crate::unread::Unread;
 use ccr_model::{Event, GhostHistory};
-use ccr_text::is_text;
+use ccr_text::{Stop, is_text};
 use ccr_wiring::{Parts, Wiring};
 use std::alloc::Global;
 use std::marker::Model;
@@ -32,13 +32,13 @@ fn refusal_at(line: u32, code: HistoryCode) -> HistoryRefused
 }
 
 /// What is answered where a line stops the reading.
-fn refused(line: u32, stop: Unread) -> HistoryRefused
+fn refused(line: u32, stop: Stop<LineFault>) -> HistoryRefused
     ensures { result ≡ refused line stop }
 {
     match stop {
-        Unread::Memory => HistoryRefused::Memory,
-        Unread::Malformed => refusal_at(line, HistoryCode::Malformed),
-        Unread::Unknown => refusal_at(line, HistoryCode::Unknown),
+        Stop::Memory => HistoryRefused::Memory,
+        Stop::Refused(LineFault::Malformed) => refusal_at(line, HistoryCode::Malformed),
+        Stop::Refused(LineFault::Unknown) => refusal_at(line, HistoryCode::Unknown),
     }
 }
 

@@ -9,20 +9,20 @@ ghost use Rattle.ccr_trace.specs.Answers.{Says, Leaves, Gives};
 use crate::cursor::PieceCursor;
 use crate::fields::{message_of, task_of};
 use crate::known::Known;
-use crate::unread::Unread;
+use crate::line_fault::LineFault;
 use ccr_base::{List, Msg, MsgId, TaskId};
 use ccr_model::{EndHow, Event};
-use ccr_text::is_text;
+use ccr_text::{Stop, is_text};
 use std::alloc::Global;
 
 /// Each word that is left names a task.
 #[tactic(auto, using(crate::proofs::Each::each_steps))]
-fn tasks(alloc: Global, mut words: PieceCursor<'_>) -> Result<List<TaskId>, Unread>
+fn tasks(alloc: Global, mut words: PieceCursor<'_>) -> Result<List<TaskId>, Stop<LineFault>>
     ensures { Says result (each task_of words.entry) }
 {
     let mut tasks = List::new(alloc);
     'words: while let Some(word) = words.take() {
-        let task = task_of(word).ok_or(Unread::Malformed)?;
+        let task = task_of(word).ok_or(Stop::Refused(LineFault::Malformed))?;
         tasks.push(task).map_err(|refused| refused.0)?;
     }
     Ok(tasks)
@@ -30,19 +30,22 @@ fn tasks(alloc: Global, mut words: PieceCursor<'_>) -> Result<List<TaskId>, Unre
 
 /// TASK .., one at least.
 #[tactic(auto, unfolding(crate::specs::Forms::cuts))]
-fn cuts(alloc: Global, words: PieceCursor<'_>) -> Result<List<TaskId>, Unread>
+fn cuts(alloc: Global, words: PieceCursor<'_>) -> Result<List<TaskId>, Stop<LineFault>>
     ensures { Says result (cuts words.entry) }
 {
     let tasks = tasks(alloc, words)?;
     if tasks.as_slice().is_empty() {
-        return Err(Unread::Malformed);
+        return Err(Stop::Refused(LineFault::Malformed));
     }
     Ok(tasks)
 }
 
 /// MSG .., and the tasks behind the word cut.
 #[tactic(auto, using(crate::proofs::Each::fired_steps))]
-fn fired(alloc: Global, mut words: PieceCursor<'_>) -> Result<(List<MsgId>, List<TaskId>), Unread>
+fn fired(
+    alloc: Global,
+    mut words: PieceCursor<'_>,
+) -> Result<(List<MsgId>, List<TaskId>), Stop<LineFault>>
     ensures { Says result (fired words.entry) }
 {
     let mut messages = List::new(alloc);
@@ -53,7 +56,7 @@ fn fired(alloc: Global, mut words: PieceCursor<'_>) -> Result<(List<MsgId>, List
         if is_text(word, "cut") {
             return Ok((messages, cuts(alloc, words)?));
         }
-        let message = message_of(word).ok_or(Unread::Malformed)?;
+        let message = message_of(word).ok_or(Stop::Refused(LineFault::Malformed))?;
         messages.push(message).map_err(|refused| refused.0)?;
     }
     Ok((messages, List::new(alloc)))
@@ -61,7 +64,7 @@ fn fired(alloc: Global, mut words: PieceCursor<'_>) -> Result<(List<MsgId>, List
 
 /// post MSG PORT VALUE CAUSE ..
 #[tactic(auto, unfolding(crate::specs::Forms::post_said, crate::specs::Known::known))]
-fn post(known: &Known<'_>, mut words: PieceCursor<'_>) -> Result<Event, Unread>
+fn post(known: &Known<'_>, mut words: PieceCursor<'_>) -> Result<Event, Stop<LineFault>>
     ensures { Gives result (event_of known.now (post_said known.now.version words.entry)) }
 {
     let id = words.message()?;
@@ -78,14 +81,18 @@ fn post(known: &Known<'_>, mut words: PieceCursor<'_>) -> Result<Event, Unread>
 
 /// fire TASK SPOT MSG .., with cut TASK .. behind it where there are cuts.
 #[tactic(auto, unfolding(crate::specs::Forms::fire_said, crate::specs::Known::known))]
-fn fire(alloc: Global, known: &Known<'_>, mut words: PieceCursor<'_>) -> Result<Event, Unread>
+fn fire(
+    alloc: Global,
+    known: &Known<'_>,
+    mut words: PieceCursor<'_>,
+) -> Result<Event, Stop<LineFault>>
     ensures { Gives result (event_of known.now (fire_said words.entry)) }
 {
     let task = words.task()?;
     let (name, site) = words.spot()?;
     let (messages, cuts) = fired(alloc, words)?;
     if messages.as_slice().is_empty() {
-        return Err(Unread::Malformed);
+        return Err(Stop::Refused(LineFault::Malformed));
     }
     Ok(Event::Fire {
         task,
@@ -97,7 +104,7 @@ fn fire(alloc: Global, known: &Known<'_>, mut words: PieceCursor<'_>) -> Result<
 
 /// admit TASK
 #[tactic(auto, unfolding(crate::specs::Forms::admit_said, crate::specs::Known::known))]
-fn admit(known: &Known<'_>, mut words: PieceCursor<'_>) -> Result<Event, Unread>
+fn admit(known: &Known<'_>, mut words: PieceCursor<'_>) -> Result<Event, Stop<LineFault>>
     ensures { Gives result (event_of known.now (admit_said words.entry)) }
 {
     let task = words.task()?;
@@ -107,14 +114,14 @@ fn admit(known: &Known<'_>, mut words: PieceCursor<'_>) -> Result<Event, Unread>
 
 /// Nothing, or drop TASK.
 #[tactic(auto, unfolding(crate::specs::Forms::dropped_said))]
-fn dropped(mut words: PieceCursor<'_>) -> Result<Option<TaskId>, Unread>
+fn dropped(mut words: PieceCursor<'_>) -> Result<Option<TaskId>, Stop<LineFault>>
     ensures { Says result (dropped_said words.entry) }
 {
     let Some(word) = words.take() else {
         return Ok(None);
     };
     if !is_text(word, "drop") {
-        return Err(Unread::Malformed);
+        return Err(Stop::Refused(LineFault::Malformed));
     }
     let task = words.task()?;
     words.no_more()?;
@@ -123,7 +130,7 @@ fn dropped(mut words: PieceCursor<'_>) -> Result<Option<TaskId>, Unread>
 
 /// put TASK, or put TASK drop TASK.
 #[tactic(auto, unfolding(crate::specs::Forms::put_said, crate::specs::Known::known))]
-fn put(known: &Known<'_>, mut words: PieceCursor<'_>) -> Result<Event, Unread>
+fn put(known: &Known<'_>, mut words: PieceCursor<'_>) -> Result<Event, Stop<LineFault>>
     ensures { Gives result (event_of known.now (put_said words.entry)) }
 {
     let task = words.task()?;
@@ -133,7 +140,7 @@ fn put(known: &Known<'_>, mut words: PieceCursor<'_>) -> Result<Event, Unread>
 
 /// start TASK ACTOR
 #[tactic(auto, unfolding(crate::specs::Forms::start_said, crate::specs::Known::known))]
-fn start(known: &Known<'_>, mut words: PieceCursor<'_>) -> Result<Event, Unread>
+fn start(known: &Known<'_>, mut words: PieceCursor<'_>) -> Result<Event, Stop<LineFault>>
     ensures { Gives result (event_of known.now (start_said words.entry)) }
 {
     let task = words.task()?;
@@ -159,7 +166,7 @@ fn plain_end(word: &[u8]) -> Option<EndHow>
 
 /// How a segment ends.
 #[tactic(auto, unfolding(crate::specs::Forms::how_said))]
-fn how(version: u32, words: &mut PieceCursor<'_>) -> Result<EndHow, Unread>
+fn how(version: u32, words: &mut PieceCursor<'_>) -> Result<EndHow, Stop<LineFault>>
     ensures { Leaves words.new result (how_said version words.old) }
 {
     let word = words.word()?;
@@ -167,12 +174,12 @@ fn how(version: u32, words: &mut PieceCursor<'_>) -> Result<EndHow, Unread>
         let value = words.value(version)?;
         return Ok(EndHow::Failed(value));
     }
-    plain_end(word).ok_or(Unread::Malformed)
+    plain_end(word).ok_or(Stop::Refused(LineFault::Malformed))
 }
 
 /// end TASK done, end TASK failed VALUE, end TASK yield, end TASK shed.
 #[tactic(auto, unfolding(crate::specs::Forms::end_said, crate::specs::Known::known))]
-fn end(known: &Known<'_>, mut words: PieceCursor<'_>) -> Result<Event, Unread>
+fn end(known: &Known<'_>, mut words: PieceCursor<'_>) -> Result<Event, Stop<LineFault>>
     ensures { Gives result (event_of known.now (end_said known.now.version words.entry)) }
 {
     let task = words.task()?;
@@ -187,7 +194,7 @@ fn event_of_words(
     known: &Known<'_>,
     first: &[u8],
     words: PieceCursor<'_>,
-) -> Result<Event, Unread>
+) -> Result<Event, Stop<LineFault>>
     ensures { Gives result (event_of known.now (form_said known.now.version first.now words.entry)) }
 {
     if is_text(first, "post") {
@@ -203,12 +210,12 @@ fn event_of_words(
     } else if is_text(first, "end") {
         end(known, words)
     } else {
-        Err(Unread::Malformed)
+        Err(Stop::Refused(LineFault::Malformed))
     }
 }
 
 /// The event of a line without its LF.
-pub fn event_on(alloc: Global, known: &Known<'_>, line: &[u8]) -> Result<Event, Unread>
+pub fn event_on(alloc: Global, known: &Known<'_>, line: &[u8]) -> Result<Event, Stop<LineFault>>
     ensures { Gives result (event_on known.now line.now) }
 {
     let mut words = PieceCursor::new(line);

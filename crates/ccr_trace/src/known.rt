@@ -7,9 +7,10 @@ ghost use Rattle.ccr_trace.specs.Known.{number_in, spot_known};
 ghost use Rattle.ccr_trace.specs.Answers.{Finds};
 
 use crate::cursor::PieceCursor;
+use crate::line_fault::LineFault;
 use crate::numbered_names::NumberedNames;
-use crate::unread::Unread;
 use ccr_base::{CauseNo, List, Name, OutOfMemory, PortNo, Spot};
+use ccr_text::Stop;
 use ccr_wiring::{ArbiterPart, CausePart, Parts, Wiring, valid_wirings_are_sound};
 use std::alloc::Global;
 use std::marker::Model;
@@ -109,20 +110,25 @@ impl<'w> Known<'w> {
         self.parts().version
     }
 
-    pub fn port(&self, name: &[u8]) -> Result<PortNo, Unread>
+    pub fn port(&self, name: &[u8]) -> Result<PortNo, Stop<LineFault>>
         ensures { Finds result (number_in self.now.ports name.now) }
     {
-        self.ports.get(name).ok_or(Unread::Unknown)
+        self.ports
+            .get(name)
+            .ok_or(Stop::Refused(LineFault::Unknown))
     }
 
     /// The causes of these names.
     #[tactic(auto, using(crate::proofs::Each::each_steps))]
-    pub fn causes(&self, mut names: PieceCursor<'_>) -> Result<List<CauseNo>, Unread>
+    pub fn causes(&self, mut names: PieceCursor<'_>) -> Result<List<CauseNo>, Stop<LineFault>>
         ensures { Finds result (each (number_in (cause_names self.now)) names.entry) }
     {
         let mut found = List::new(self.alloc);
         'names: while let Some(name) = names.take() {
-            let cause = self.causes.get(name).ok_or(Unread::Unknown)?;
+            let cause = self
+                .causes
+                .get(name)
+                .ok_or(Stop::Refused(LineFault::Unknown))?;
             found.push(cause).map_err(|refused| refused.0)?;
         }
         Ok(found)
@@ -130,15 +136,18 @@ impl<'w> Known<'w> {
 
     /// The branch of that name, or its site where it has one of that number.
     #[tactic(auto, unfolding(crate::specs::Known::spot_known))]
-    pub fn spot(&self, name: &[u8], site: Option<u32>) -> Result<Spot, Unread>
+    pub fn spot(&self, name: &[u8], site: Option<u32>) -> Result<Spot, Stop<LineFault>>
         ensures { Finds result (spot_known self.now (record { name = name.now; site = site })) }
     {
-        let branch = self.branches.get(name).ok_or(Unread::Unknown)?;
+        let branch = self
+            .branches
+            .get(name)
+            .ok_or(Stop::Refused(LineFault::Unknown))?;
         let Some(site) = site else {
             return Ok(Spot::Branch(branch));
         };
         if self.wiring.site_port(branch, site).is_none() {
-            return Err(Unread::Unknown);
+            return Err(Stop::Refused(LineFault::Unknown));
         }
         Ok(Spot::Site(branch, site))
     }

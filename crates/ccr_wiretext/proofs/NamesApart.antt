@@ -1,7 +1,6 @@
 -- The declared names stay apart and known.
-use Rattle.std.proofs.Common.{◌≡◌, ℕ, Bool, true, false, cond, List, [], ◌∷◌, ◌++◌, Some, None, refl, sym, subst, ◌∙◌}
+use Rattle.std.proofs.Common.{◌≡◌, ℕ, Bool, true, false, cond, List, [], ◌∷◌, ◌++◌, Some, None, refl, subst}
 use Rattle.std.specs.Str.{bytes_eq}
-use Rattle.std.proofs.lemmas.Slice.Eq.{bytes_eq-Decides}
 use Rattle.ccr_text.specs.Words.{is_name_of}
 use Rattle.ccr_text.specs.Names.{meaning_of}
 use Rattle.ccr_text.proofs.Meanings.{meaning_none}
@@ -11,13 +10,11 @@ use Rattle.ccr_wiretext.specs.Names.{Naming}
 use Rattle.ccr_wiretext.specs.Grammar.{IsNew}
 use Rattle.ccr_wiretext.proofs.Each.{each_insert, neither, none_inserted}
 use Rattle.ccr_base.specs.Lists.{Each}
+use Rattle.ccr_base.proofs.Booleans.{refuted, no_both}
+use Rattle.ccr_base.proofs.Texts.{same_word, same_text}
 
 differ_back : (a b : List ℕ) → bytes_eq a b ≡ false → bytes_eq b a ≡ false
-differ_back a b e = by (bytes_eq b a) refl
-  where
-    by : (t : Bool) → bytes_eq b a ≡ t → t ≡ false
-    by false is = refl
-    by true is = absurd (let same : b ≡ a = (bytes_eq-Decides b a).0 is in let h : true ≡ false = sym (subst (λ v. bytes_eq v b ≡ true) same ((bytes_eq-Decides b b).1 refl)) ∙ e in cc)
+differ_back a b e = refuted (bytes_eq b a) (λ is. no_both (subst (λ v. bytes_eq v b ≡ true) (same_word b a is) (same_text b)) e)
 
 -- names of which no two are equal, with another one among them
 repeated_insert : (xs ys : List (List ℕ)) (name : List ℕ) → has_repeated (xs ++ ys) ≡ false → has_name (xs ++ ys) name ≡ false → has_repeated (xs ++ name ∷ ys) ≡ false

@@ -1,5 +1,6 @@
 -- What a reader answers of a text: what reading gives, unless memory ran out.
 use Rattle.std.specs.Prelude.{◌≡◌, ℕ, List, Result, Ok, Err}
+use Rattle.ccr_text.specs.declared.code.Code.{Code}
 use Rattle.ccr_text.specs.declared.stop.Stop.{Stop}
 use Rattle.ccr_text.specs.declared.stop.Stop.TheVariants as stops
 use Rattle.ccr_text.specs.Codes.{code_number}
@@ -9,7 +10,7 @@ use Rattle.ccr_wiretext.specs.declared.refused.ReadRefused.TheVariants as refusa
 use Rattle.ccr_wiretext.specs.Lines.{IsText}
 
 -- what is answered where a line stops the reading
-abbrev pub refused : ℕ → Stop → ReadRefused
+abbrev pub refused : ℕ → Stop Code → ReadRefused
 refused line stops.Memory = refusals.Memory
 refused line (stops.Refused code) = refusals.At line (code_number code)
 

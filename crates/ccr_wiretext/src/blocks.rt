@@ -32,7 +32,7 @@ fn group_of(kind: Kind, first: Keyword) -> Option<Group>
 
 impl Draft {
     #[tactic(auto, unfolding(crate::specs::Blocks::outside_line))]
-    fn port_line(&mut self, words: Cursor<'_>) -> Result<(), Stop>
+    fn port_line(&mut self, words: Cursor<'_>) -> Result<(), Stop<Code>>
         ensures { GivesState self.new result (outside_line self.old Keyword.Port words.entry) }
     {
         let count = self.parts.ports.as_slice().len();
@@ -42,7 +42,7 @@ impl Draft {
     }
 
     #[tactic(auto, unfolding(crate::specs::Blocks::outside_line))]
-    fn open_handler(&mut self, words: Cursor<'_>) -> Result<(), Stop>
+    fn open_handler(&mut self, words: Cursor<'_>) -> Result<(), Stop<Code>>
         ensures { GivesState self.new result (outside_line self.old Keyword.Handler words.entry) }
     {
         let count = self.parts.handlers.as_slice().len();
@@ -52,7 +52,7 @@ impl Draft {
     }
 
     #[tactic(auto, unfolding(crate::specs::Blocks::outside_line))]
-    fn open_choice(&mut self, words: Cursor<'_>) -> Result<(), Stop>
+    fn open_choice(&mut self, words: Cursor<'_>) -> Result<(), Stop<Code>>
         ensures { GivesState self.new result (outside_line self.old Keyword.Choice words.entry) }
     {
         let count = self.parts.arbiters.as_slice().len();
@@ -62,7 +62,7 @@ impl Draft {
     }
 
     #[tactic(auto, unfolding(crate::specs::Blocks::outside_line))]
-    fn open_interleave(&mut self, words: Cursor<'_>) -> Result<(), Stop>
+    fn open_interleave(&mut self, words: Cursor<'_>) -> Result<(), Stop<Code>>
         ensures { GivesState self.new result (outside_line self.old Keyword.Interleave words.entry) }
     {
         let count = self.parts.arbiters.as_slice().len();
@@ -72,7 +72,7 @@ impl Draft {
     }
 
     #[tactic(auto, unfolding(crate::specs::Blocks::outside_line))]
-    fn open_poster(&mut self, words: Cursor<'_>) -> Result<(), Stop>
+    fn open_poster(&mut self, words: Cursor<'_>) -> Result<(), Stop<Code>>
         ensures { GivesState self.new result (outside_line self.old Keyword.Poster words.entry) }
     {
         let count = self.parts.posters.as_slice().len();
@@ -82,7 +82,7 @@ impl Draft {
     }
 
     #[tactic(auto, unfolding(crate::specs::Blocks::outside_line))]
-    fn outside_line(&mut self, first: Keyword, words: Cursor<'_>) -> Result<(), Stop>
+    fn outside_line(&mut self, first: Keyword, words: Cursor<'_>) -> Result<(), Stop<Code>>
         ensures { GivesState self.new result (outside_line self.old first words.entry) }
     {
         match first {
@@ -126,7 +126,7 @@ impl Draft {
         part: HandlerPart,
         first: Keyword,
         words: Cursor<'_>,
-    ) -> Result<(), Stop>
+    ) -> Result<(), Stop<Code>>
         ensures { GivesState self.new result (handler_line self.old part first words.entry) }
     {
         match first {
@@ -165,7 +165,7 @@ impl Draft {
         part: ArbiterPart,
         first: Keyword,
         words: Cursor<'_>,
-    ) -> Result<(), Stop>
+    ) -> Result<(), Stop<Code>>
         ensures { GivesState self.new result (arbiter_line self.old part first words.entry) }
     {
         if let Keyword::End = first {
@@ -187,7 +187,7 @@ impl Draft {
         part: PosterPart,
         first: Keyword,
         words: Cursor<'_>,
-    ) -> Result<(), Stop>
+    ) -> Result<(), Stop<Code>>
         ensures { GivesState self.new result (poster_line self.old part first words.entry) }
     {
         match first {
@@ -239,7 +239,7 @@ impl Draft {
 
     /// Takes in a line with these words.
     #[tactic(auto, unfolding(crate::specs::Blocks::line_in))]
-    pub fn line(&mut self, first: Keyword, words: Cursor<'_>) -> Result<(), Stop>
+    pub fn line(&mut self, first: Keyword, words: Cursor<'_>) -> Result<(), Stop<Code>>
         ensures { GivesState self.new result (line_in self.old.block self.old first words.entry) }
     {
         match mem::replace(&mut self.block, Block::Outside) {

@@ -15,7 +15,7 @@ use std::alloc::Global;
 
 /// A name that is declared here.
 #[tactic(auto, unfolding(crate::specs::Fields::new_name))]
-pub fn new_name<'a>(words: &mut Cursor<'a>, names: &Names<Named>) -> Result<&'a [u8], Stop>
+pub fn new_name<'a>(words: &mut Cursor<'a>, names: &Names<Named>) -> Result<&'a [u8], Stop<Code>>
     ensures { LeavesBy (λ name. name.now) words.new result (new_name names.now words.old) }
 {
     let name = words.word()?;
@@ -30,7 +30,7 @@ pub fn new_name<'a>(words: &mut Cursor<'a>, names: &Names<Named>) -> Result<&'a 
 
 /// PORT or SET/PORT.
 #[tactic(auto, unfolding(crate::specs::Fields::port))]
-pub fn port(words: &mut Cursor<'_>, draft: &Draft) -> Result<PortNo, Stop>
+pub fn port(words: &mut Cursor<'_>, draft: &Draft) -> Result<PortNo, Stop<Code>>
     ensures { Leaves words.new result (port draft.now words.old) }
 {
     let name = words.word()?;
@@ -41,7 +41,7 @@ pub fn port(words: &mut Cursor<'_>, draft: &Draft) -> Result<PortNo, Stop>
 }
 
 #[tactic(auto, unfolding(crate::specs::Fields::reference))]
-pub fn queue(words: &mut Cursor<'_>, names: &Names<Named>) -> Result<QueueNo, Stop>
+pub fn queue(words: &mut Cursor<'_>, names: &Names<Named>) -> Result<QueueNo, Stop<Code>>
     ensures { Leaves words.new result (reference as_queue names.now words.old) }
 {
     let name = words.word()?;
@@ -52,7 +52,7 @@ pub fn queue(words: &mut Cursor<'_>, names: &Names<Named>) -> Result<QueueNo, St
 }
 
 #[tactic(auto, unfolding(crate::specs::Fields::reference))]
-pub fn cause(words: &mut Cursor<'_>, names: &Names<Named>) -> Result<CauseNo, Stop>
+pub fn cause(words: &mut Cursor<'_>, names: &Names<Named>) -> Result<CauseNo, Stop<Code>>
     ensures { Leaves words.new result (reference as_cause names.now words.old) }
 {
     let name = words.word()?;
@@ -63,7 +63,7 @@ pub fn cause(words: &mut Cursor<'_>, names: &Names<Named>) -> Result<CauseNo, St
 }
 
 #[tactic(auto, unfolding(crate::specs::Fields::reference))]
-pub fn handler(words: &mut Cursor<'_>, names: &Names<Named>) -> Result<HandlerNo, Stop>
+pub fn handler(words: &mut Cursor<'_>, names: &Names<Named>) -> Result<HandlerNo, Stop<Code>>
     ensures { Leaves words.new result (reference as_handler names.now words.old) }
 {
     let name = words.word()?;
@@ -75,7 +75,7 @@ pub fn handler(words: &mut Cursor<'_>, names: &Names<Named>) -> Result<HandlerNo
 
 /// once or always.
 #[tactic(auto, unfolding(crate::specs::Fields::group))]
-pub fn group(words: &mut Cursor<'_>) -> Result<Group, Stop>
+pub fn group(words: &mut Cursor<'_>) -> Result<Group, Stop<Code>>
     ensures { Leaves words.new result (group words.old) }
 {
     let name = words.word()?;
@@ -89,7 +89,7 @@ pub fn group(words: &mut Cursor<'_>) -> Result<Group, Stop>
 }
 
 #[tactic(auto, unfolding(crate::specs::Fields::reference))]
-fn arbiter(words: &mut Cursor<'_>, names: &Names<Named>) -> Result<ArbiterNo, Stop>
+fn arbiter(words: &mut Cursor<'_>, names: &Names<Named>) -> Result<ArbiterNo, Stop<Code>>
     ensures { Leaves words.new result (reference as_arbiter names.now words.old) }
 {
     let name = words.word()?;
@@ -100,7 +100,7 @@ fn arbiter(words: &mut Cursor<'_>, names: &Names<Named>) -> Result<ArbiterNo, St
 }
 
 #[tactic(auto, unfolding(crate::specs::Fields::interleave))]
-pub fn interleave(words: &mut Cursor<'_>, draft: &Draft) -> Result<ArbiterNo, Stop>
+pub fn interleave(words: &mut Cursor<'_>, draft: &Draft) -> Result<ArbiterNo, Stop<Code>>
     ensures { Leaves words.new result (interleave draft.now words.old) }
 {
     let arbiter = arbiter(words, &draft.names)?;
@@ -112,7 +112,7 @@ pub fn interleave(words: &mut Cursor<'_>, draft: &Draft) -> Result<ArbiterNo, St
 
 /// A value in a text of this version.
 #[tactic(auto, unfolding(crate::specs::Fields::value))]
-pub fn value(words: &mut Cursor<'_>, alloc: Global, version: u32) -> Result<Value, Stop>
+pub fn value(words: &mut Cursor<'_>, alloc: Global, version: u32) -> Result<Value, Stop<Code>>
     ensures { Leaves words.new result (value version words.old) }
 {
     let word = words.word()?;
@@ -121,7 +121,7 @@ pub fn value(words: &mut Cursor<'_>, alloc: Global, version: u32) -> Result<Valu
 
 /// The two numbers behind part.
 #[tactic(auto, unfolding(crate::specs::Fields::part))]
-fn part(words: &mut Cursor<'_>) -> Result<Expr, Stop>
+fn part(words: &mut Cursor<'_>) -> Result<Expr, Stop<Code>>
     ensures { Leaves words.new result (part words.old) }
 {
     let message = words.number_within(0, MAX_ARG)?;
@@ -131,7 +131,7 @@ fn part(words: &mut Cursor<'_>) -> Result<Expr, Stop>
 
 /// A value, arg N, sum or count; in version 2 part N N too.
 #[tactic(auto, unfolding(crate::specs::Fields::expr))]
-pub fn expr(words: &mut Cursor<'_>, alloc: Global, version: u32) -> Result<Expr, Stop>
+pub fn expr(words: &mut Cursor<'_>, alloc: Global, version: u32) -> Result<Expr, Stop<Code>>
     ensures { Leaves words.new result (expr version words.old) }
 {
     let name = words.word()?;

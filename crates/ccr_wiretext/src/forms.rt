@@ -82,7 +82,7 @@ fn is_one_crowded(before: &Spotted, new: &[PortNo]) -> bool
 impl Draft {
     /// budget N.
     #[tactic(auto, unfolding(crate::specs::Forms::budget_form))]
-    pub fn budget_form(&self, mut words: Cursor<'_>) -> Result<u32, Stop>
+    pub fn budget_form(&self, mut words: Cursor<'_>) -> Result<u32, Stop<Code>>
         ensures { Gives result (budget_form self.now words.entry) }
     {
         if self.budgeted {
@@ -95,7 +95,7 @@ impl Draft {
 
     /// queue NAME POLICY.
     #[tactic(auto, unfolding(crate::specs::Forms::queue_form, crate::specs::Fields::new_name))]
-    pub fn queue_form(&self, mut words: Cursor<'_>) -> Result<QueuePart, Stop>
+    pub fn queue_form(&self, mut words: Cursor<'_>) -> Result<QueuePart, Stop<Code>>
         ensures form { Gives result (queue_form self.now words.entry) }
         ensures new { IfOk result (λ part. meaning_of self.now.names part.name ≡ None) }
         ensures room { OnOk result (length self.now.parts.queues < most_queues) }
@@ -117,7 +117,7 @@ impl Draft {
         limit: usize,
         count: usize,
         mut words: Cursor<'a>,
-    ) -> Result<&'a [u8], Stop>
+    ) -> Result<&'a [u8], Stop<Code>>
         ensures form { GivesBy (λ name. name.now) result (name_form limit count self.now words.entry) }
         ensures new { IfOk result (λ name. meaning_of self.now.names name.now ≡ None) }
         ensures room { OnOk result (count < limit) }
@@ -132,7 +132,7 @@ impl Draft {
 
     /// portset NAME PORT ..
     #[tactic(auto, unfolding(crate::specs::Forms::set_form, crate::specs::Fields::new_name))]
-    pub fn set_form(&self, mut words: Cursor<'_>) -> Result<SetPart, Stop>
+    pub fn set_form(&self, mut words: Cursor<'_>) -> Result<SetPart, Stop<Code>>
         ensures form { Gives result (set_form self.now words.entry) }
         ensures new { IfOk result (λ part. meaning_of self.now.names part.name ≡ None) }
         ensures room { OnOk result (length self.now.parts.sets < most_sets) }
@@ -148,7 +148,7 @@ impl Draft {
 
     /// cause NAME PORT.
     #[tactic(auto, unfolding(crate::specs::Forms::cause_form, crate::specs::Fields::new_name))]
-    pub fn cause_form(&self, mut words: Cursor<'_>) -> Result<CausePart, Stop>
+    pub fn cause_form(&self, mut words: Cursor<'_>) -> Result<CausePart, Stop<Code>>
         ensures form { Gives result (cause_form self.now words.entry) }
         ensures new { IfOk result (λ part. meaning_of self.now.names part.name ≡ None) }
         ensures room { OnOk result (length self.now.parts.causes < most_causes) }
@@ -179,7 +179,7 @@ impl Draft {
         name: &[u8],
         group: Group,
         mut words: Cursor<'_>,
-    ) -> Result<BranchPart, Stop>
+    ) -> Result<BranchPart, Stop<Code>>
         ensures form { Gives result (branch_tail self.now name.now group words.entry) }
         ensures name { IfOk result (λ branch. branch.name ≡ name.now) }
     {
@@ -201,7 +201,7 @@ impl Draft {
 
     /// combine INTERLEAVE INTERLEAVE ..
     #[tactic(auto, unfolding(crate::specs::Forms::combine_form))]
-    pub fn combine_form(&self, mut words: Cursor<'_>) -> Result<DomainPart, Stop>
+    pub fn combine_form(&self, mut words: Cursor<'_>) -> Result<DomainPart, Stop<Code>>
         ensures { Gives result (combine_form self.now words.entry) }
     {
         if self.parts.domains.as_slice().len() >= MAX_DOMAINS {
@@ -213,7 +213,7 @@ impl Draft {
 
     /// A receive counts as an arbiter and as a branch.
     #[tactic(auto, unfolding(crate::specs::Forms::receive_room))]
-    fn receive_room(&self) -> Result<(), Stop>
+    fn receive_room(&self) -> Result<(), Stop<Code>>
         ensures { Gives result (receive_room self.now) }
     {
         if self.parts.arbiters.as_slice().len() >= MAX_ARBITERS {
@@ -227,7 +227,7 @@ impl Draft {
 
     /// receive NAME GROUP QUEUE HANDLER PATTERN.
     #[tactic(auto, unfolding(crate::specs::Forms::receive_form, crate::specs::Fields::new_name))]
-    pub fn receive_form(&self, mut words: Cursor<'_>) -> Result<BranchPart, Stop>
+    pub fn receive_form(&self, mut words: Cursor<'_>) -> Result<BranchPart, Stop<Code>>
         ensures form { Gives result (receive_form self.now words.entry) }
         ensures new { IfOk result (λ branch. meaning_of self.now.names branch.name ≡ None) }
     {
@@ -244,7 +244,7 @@ impl Draft {
         part: &ArbiterPart,
         group: Group,
         mut words: Cursor<'_>,
-    ) -> Result<BranchPart, Stop>
+    ) -> Result<BranchPart, Stop<Code>>
         ensures form { Gives result (branch_form self.now part.now group words.entry) }
         ensures new { IfOk result (λ branch. meaning_of self.now.names branch.name ≡ None) }
     {
@@ -258,7 +258,7 @@ impl Draft {
 
     /// post PORT EXPR, in a handler.
     #[tactic(auto, unfolding(crate::specs::Forms::post_form))]
-    pub fn post_form(&self, part: &HandlerPart, mut words: Cursor<'_>) -> Result<Action, Stop>
+    pub fn post_form(&self, part: &HandlerPart, mut words: Cursor<'_>) -> Result<Action, Stop<Code>>
         ensures { Gives result (post_form self.now part.now words.entry) }
     {
         if part.handler.actions.as_slice().len() >= MAX_ACTIONS {
@@ -272,7 +272,7 @@ impl Draft {
 
     /// fail EXPR.
     #[tactic(auto, unfolding(crate::specs::Forms::fail_form))]
-    pub fn fail_form(&self, part: &HandlerPart, mut words: Cursor<'_>) -> Result<Expr, Stop>
+    pub fn fail_form(&self, part: &HandlerPart, mut words: Cursor<'_>) -> Result<Expr, Stop<Code>>
         ensures { Gives result (fail_form self.now part.now words.entry) }
     {
         if part.handler.actions.as_slice().len() >= MAX_ACTIONS {
@@ -285,7 +285,11 @@ impl Draft {
 
     /// add CAUSE and remove CAUSE.
     #[tactic(auto, unfolding(crate::specs::Forms::caused_form))]
-    pub fn caused_form(&self, part: &HandlerPart, mut words: Cursor<'_>) -> Result<CauseNo, Stop>
+    pub fn caused_form(
+        &self,
+        part: &HandlerPart,
+        mut words: Cursor<'_>,
+    ) -> Result<CauseNo, Stop<Code>>
         ensures { Gives result (caused_form self.now part.now words.entry) }
     {
         if part.handler.actions.as_slice().len() >= MAX_ACTIONS {
@@ -298,7 +302,11 @@ impl Draft {
 
     /// await PORT.
     #[tactic(auto, unfolding(crate::specs::Forms::await_form))]
-    pub fn await_form(&self, part: &HandlerPart, mut words: Cursor<'_>) -> Result<Action, Stop>
+    pub fn await_form(
+        &self,
+        part: &HandlerPart,
+        mut words: Cursor<'_>,
+    ) -> Result<Action, Stop<Code>>
         ensures { Gives result (await_form self.now part.now words.entry) }
     {
         if part.handler.actions.as_slice().len() >= MAX_ACTIONS {
@@ -319,7 +327,7 @@ impl Draft {
 
     /// post PORT VALUE CAUSE .., in a poster.
     #[tactic(auto, unfolding(crate::specs::Forms::script_form))]
-    pub fn script_form(&self, part: &PosterPart, mut words: Cursor<'_>) -> Result<Sent, Stop>
+    pub fn script_form(&self, part: &PosterPart, mut words: Cursor<'_>) -> Result<Sent, Stop<Code>>
         ensures { Gives result (script_form self.now part.now words.entry) }
     {
         if !self.has_post_room(part) {
@@ -338,7 +346,7 @@ impl Draft {
 
 /// end of a choice or Interleave.
 #[tactic(auto, unfolding(crate::specs::Forms::arbiter_end_form))]
-pub fn arbiter_end_form(part: &ArbiterPart, words: Cursor<'_>) -> Result<(), Stop>
+pub fn arbiter_end_form(part: &ArbiterPart, words: Cursor<'_>) -> Result<(), Stop<Code>>
     ensures { Gives result (arbiter_end_form part.now words.entry) }
 {
     if part.branches.as_slice().is_empty() {

@@ -15,7 +15,7 @@ use std::alloc::Global;
 
 /// any, eq N, lt N or ge N.
 #[tactic(auto, unfolding(crate::specs::Patterns::pred))]
-fn pred(words: &mut Cursor<'_>) -> Result<Pred, Stop>
+fn pred(words: &mut Cursor<'_>) -> Result<Pred, Stop<Code>>
     ensures { Leaves words.new result (pred words.old) }
 {
     let name = words.word()?;
@@ -34,7 +34,7 @@ fn pred(words: &mut Cursor<'_>) -> Result<Pred, Stop>
 
 /// A port that isn't among those found before it.
 #[tactic(auto, unfolding(crate::specs::Patterns::new_port))]
-fn new_port(words: &mut Cursor<'_>, draft: &Draft, found: &[PortNo]) -> Result<PortNo, Stop>
+fn new_port(words: &mut Cursor<'_>, draft: &Draft, found: &[PortNo]) -> Result<PortNo, Stop<Code>>
     ensures { Leaves words.new result (new_port draft.now found.now words.old) }
 {
     let port = fields::port(words, draft)?;
@@ -46,7 +46,7 @@ fn new_port(words: &mut Cursor<'_>, draft: &Draft, found: &[PortNo]) -> Result<P
 
 /// A slot whose port none of those found before has.
 #[tactic(auto, unfolding(crate::specs::Patterns::slot))]
-fn slot(words: &mut Cursor<'_>, draft: &Draft, found: &[Slot]) -> Result<Slot, Stop>
+fn slot(words: &mut Cursor<'_>, draft: &Draft, found: &[Slot]) -> Result<Slot, Stop<Code>>
     ensures { Leaves words.new result (slot draft.now found.now words.old) }
 {
     let port = fields::port(words, draft)?;
@@ -65,7 +65,7 @@ fn slot(words: &mut Cursor<'_>, draft: &Draft, found: &[Slot]) -> Result<Slot, S
 
 /// 1 to 8 slots.
 #[tactic(auto, unfolding(crate::specs::Patterns::taken, crate::specs::Patterns::slots))]
-fn taken(words: &mut Cursor<'_>, alloc: Global, draft: &Draft) -> Result<Pattern, Stop>
+fn taken(words: &mut Cursor<'_>, alloc: Global, draft: &Draft) -> Result<Pattern, Stop<Code>>
     ensures { Gives result (taken draft.now words.old) }
 {
     let mut found = Vec::new(alloc);
@@ -82,7 +82,7 @@ fn taken(words: &mut Cursor<'_>, alloc: Global, draft: &Draft) -> Result<Pattern
 
 /// N PORT PORT.
 #[tactic(auto, unfolding(crate::specs::Patterns::gathered))]
-fn gathered(words: &mut Cursor<'_>, draft: &Draft) -> Result<Pattern, Stop>
+fn gathered(words: &mut Cursor<'_>, draft: &Draft) -> Result<Pattern, Stop<Code>>
     ensures { Gives result (gathered draft.now words.old) }
 {
     let total = words.number_within(1, MAX_COUNT)?;
@@ -98,7 +98,7 @@ fn gathered(words: &mut Cursor<'_>, draft: &Draft) -> Result<Pattern, Stop>
 
 /// take and its slots, or gather and its ports, up to the end of the line.
 #[tactic(auto, unfolding(crate::specs::Patterns::pattern))]
-pub fn pattern(words: &mut Cursor<'_>, alloc: Global, draft: &Draft) -> Result<Pattern, Stop>
+pub fn pattern(words: &mut Cursor<'_>, alloc: Global, draft: &Draft) -> Result<Pattern, Stop<Code>>
     ensures { Gives result (pattern draft.now words.old) }
 {
     let name = words.word()?;
@@ -113,7 +113,11 @@ pub fn pattern(words: &mut Cursor<'_>, alloc: Global, draft: &Draft) -> Result<P
 
 /// The 1 to 8 members of a set, up to the end of the line.
 #[tactic(auto, unfolding(crate::specs::Patterns::all_members, crate::specs::Patterns::members))]
-pub fn members(words: &mut Cursor<'_>, alloc: Global, draft: &Draft) -> Result<List<PortNo>, Stop>
+pub fn members(
+    words: &mut Cursor<'_>,
+    alloc: Global,
+    draft: &Draft,
+) -> Result<List<PortNo>, Stop<Code>>
     ensures { Gives result (all_members draft.now words.old) }
 {
     let mut found = Vec::new(alloc);
@@ -130,7 +134,11 @@ pub fn members(words: &mut Cursor<'_>, alloc: Global, draft: &Draft) -> Result<L
 
 /// An Interleave that no line before combines, and that isn't among those found before it.
 #[tactic(auto, unfolding(crate::specs::Patterns::new_member))]
-fn new_member(words: &mut Cursor<'_>, draft: &Draft, found: &[ArbiterNo]) -> Result<ArbiterNo, Stop>
+fn new_member(
+    words: &mut Cursor<'_>,
+    draft: &Draft,
+    found: &[ArbiterNo],
+) -> Result<ArbiterNo, Stop<Code>>
     ensures { Leaves words.new result (new_member draft.now found.now words.old) }
 {
     let arbiter = fields::interleave(words, draft)?;
@@ -146,7 +154,7 @@ pub fn combined(
     words: &mut Cursor<'_>,
     alloc: Global,
     draft: &Draft,
-) -> Result<List<ArbiterNo>, Stop>
+) -> Result<List<ArbiterNo>, Stop<Code>>
     ensures { Gives result (combined draft.now words.old) }
 {
     let mut found = Vec::new(alloc);
@@ -168,7 +176,7 @@ pub fn causes(
     words: &mut Cursor<'_>,
     alloc: Global,
     names: &Names<Named>,
-) -> Result<List<CauseNo>, Stop>
+) -> Result<List<CauseNo>, Stop<Code>>
     ensures { Gives result (causes names.now [] words.old) }
 {
     let mut found = Vec::new(alloc);

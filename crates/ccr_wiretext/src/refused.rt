@@ -3,7 +3,7 @@
 ghost use Rattle.std.specs.Prelude.{◌≡◌};
 ghost use Rattle.ccr_wiretext.specs.Answers.{refused};
 
-use ccr_text::Stop;
+use ccr_text::{Code, Stop};
 use thiserror::Error;
 
 /// The first line that offends, and its code (docs/FORMATS.md), or running out of memory.
@@ -17,7 +17,7 @@ pub enum ReadRefused {
 
 impl ReadRefused {
     /// What is answered where reading stops at this line.
-    pub fn of(line: u32, stop: Stop) -> Self
+    pub fn of(line: u32, stop: Stop<Code>) -> Self
         ensures { result ≡ refused line stop }
     {
         match stop {

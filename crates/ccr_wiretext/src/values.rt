@@ -24,7 +24,7 @@ fn split_piece(word: &[u8]) -> (&[u8], Option<&[u8]>)
 
 /// The numbers between the commas of a word.
 #[tactic(auto, unfolding(crate::specs::Fields::numbers_after))]
-fn numbers_in(alloc: Global, word: &[u8]) -> Result<Vec<u64>, Stop>
+fn numbers_in(alloc: Global, word: &[u8]) -> Result<Vec<u64>, Stop<Code>>
     ensures { GivesBy (λ numbers. numbers.items) result (numbers_after [] (pieces word.now)) }
 {
     let mut numbers = Vec::new(alloc);
@@ -42,7 +42,7 @@ fn numbers_in(alloc: Global, word: &[u8]) -> Result<Vec<u64>, Stop>
 
 /// 1 to 8 numbers with commas between them.
 #[tactic(auto, unfolding(crate::specs::Fields::several))]
-fn several(alloc: Global, word: &[u8]) -> Result<Value, Stop>
+fn several(alloc: Global, word: &[u8]) -> Result<Value, Stop<Code>>
     ensures { Gives result (several word.now) }
 {
     let numbers = numbers_in(alloc, word)?;
@@ -53,7 +53,7 @@ fn several(alloc: Global, word: &[u8]) -> Result<Value, Stop>
 }
 
 #[tactic(auto, unfolding(crate::specs::Fields::single))]
-fn single(word: &[u8]) -> Result<Value, Stop>
+fn single(word: &[u8]) -> Result<Value, Stop<Code>>
     ensures { Gives result (single word.now) }
 {
     match read_number(word) {
@@ -64,7 +64,7 @@ fn single(word: &[u8]) -> Result<Value, Stop>
 
 /// The value that a word is in a text of this version.
 #[tactic(auto, unfolding(crate::specs::Fields::value_in))]
-pub fn value_in(alloc: Global, version: u32, word: &[u8]) -> Result<Value, Stop>
+pub fn value_in(alloc: Global, version: u32, word: &[u8]) -> Result<Value, Stop<Code>>
     ensures { Gives result (value_in version word.now) }
 {
     if version == 2 {

@@ -1,6 +1,6 @@
 -- The domain of a branch is the number of an arbiter of its own kind.
 use Rattle.std.proofs.Common.{◌≡◌, ℕ, suc, ◌+◌, ◌≤◌, min, Bool, true, false, List, [], ◌∷◌, Option, Some, None, refl, ap, sym, subst, ◌∙◌, arith, ◌-◌, ◌<◌, length}
-use Rattle.std.specs.Prelude.{◌||◌, ◌==◌, not, nat_le, IsSomeAnd, nat_lt}
+use Rattle.std.specs.Prelude.{◌==◌, not, nat_le, IsSomeAnd, nat_lt}
 use Rattle.std.specs.List.{list_any, slice_get}
 use Rattle.std.specs.Option.{option_map, option_map_or}
 use Rattle.std.proofs.lemmas.Option.{slice_get-map}
@@ -19,6 +19,8 @@ use Rattle.ccr_wiring.specs.References.{no_interleave, domain_is_dangling, has_d
 use Rattle.ccr_wiring.specs.Wirings.{Placement, placement, placements_from, in_domain, branches_before}
 use Rattle.ccr_wiring.proofs.Lists.{neither}
 use Rattle.ccr_wiring.proofs.Positions.{placement-here, placement-later}
+use Rattle.ccr_base.proofs.Booleans.{refuted, no_both, same_number}
+use Rattle.ccr_base.proofs.Lists.{none_narrower}
 
 -- the arbiter of a branch's placement, by its index, and where its branches stand among all
 pub record ArbiterOf (first : ℕ) (arbiters : List ArbiterPart) (branch : ℕ) (s : Placement) : Type 0 where
@@ -81,14 +83,7 @@ least_fails p least (number ∷ numbers) fails none =
 
 -- what none of the numbers passes, a number among them doesn't
 pub member_fails : (p : ℕ → Bool) (numbers : List ℕ) (number : ℕ) → has_number numbers number ≡ true → list_any p numbers ≡ false → p number ≡ false
-member_fails p [] number there none = absurd cc
-member_fails p (other ∷ numbers) number there none =
-    let both = neither (p other) (list_any p numbers) none in
-    by_test (other == number) refl (λ among. member_fails p numbers number among both.1)
-  where
-    by_test : (t : Bool) → (other == number) ≡ t → (has_number numbers number ≡ true → p number ≡ false) → p number ≡ false
-    by_test true same others = let e : other ≡ number = grind (arith, nat_tests, same) in ap p (sym e) ∙ (neither (p other) (list_any p numbers) none).0
-    by_test false apart others = others (ap (λ b. b || has_number numbers number) (sym apart) ∙ there)
+member_fails p numbers number there none = refuted (p number) (λ is. no_both there (none_narrower (λ n. n == number) p numbers (λ n same. ap p (same_number n number same) ∙ is) none))
 
 interleave_kind : (kind : Kind) → not (is_interleave kind) ≡ false → kind ≡ kinds.Interleave
 interleave_kind kinds.Interleave fails = refl

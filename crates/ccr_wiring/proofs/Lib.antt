@@ -8,4 +8,3 @@ pub mod Noted
 pub mod Untaken
 pub mod DomainsOfOwnKind
 pub mod Soundness
-pub mod Apart

@@ -9,27 +9,22 @@ use Rattle.ccr_base.specs.declared.names.Spot.{Spot}
 use Rattle.ccr_base.specs.declared.patterns.Slot.{Slot}
 use Rattle.ccr_base.proofs.Booleans.{and_false}
 use Rattle.ccr_base.specs.Lists.{has_number, are_apart}
-use Rattle.ccr_base.proofs.Options.{some-below, parted}
+use Rattle.ccr_base.proofs.Options.{some-below, parted, slice_get-set}
 use Rattle.ccr_base.proofs.Lists.{any_more}
 use Rattle.ccr_wiring.specs.Repeats.{slot_ports}
 use Rattle.ccr_wiring.specs.Takers.{more_for, IsNoted}
-use Rattle.ccr_wiring.proofs.Apart.{not_before}
-
--- one list in the place of another
-set_at : (lists : List (List Spot)) (k n : ℕ) (list : List Spot) → k < length lists → slice_get (slice_set lists k list) n ≡ (if k == n then Some list else slice_get lists n)
-set_at [] k n list low = absurd (omega (arith, low))
-set_at (other ∷ lists) zero zero list low = refl
-set_at (other ∷ lists) zero (suc n) list low = grind (arith, nat_tests)
-set_at (other ∷ lists) (suc k) zero list low = grind (arith, nat_tests)
-set_at (other ∷ lists) (suc k) (suc n) list low = set_at lists k n list (omega (arith, low)) ∙ grind (arith, nat_tests)
+use Rattle.ccr_base.proofs.Apart.{not_before}
 
 -- the spot at the end of the list of one number
 pub noted_one : (lists : List (List Spot)) (k : ℕ) (spot : Spot) (d now : List Spot) → k < length lists → now ≡ get_or lists k d ++ spot ∷ [] → IsNoted (λ n. k == n) spot lists (slice_set lists k now)
 noted_one lists k spot d now within more = record {
   size = length-set lists k now;
-  each = λ n list there. set_at lists k n now within ∙ of_test n list there (k == n) refl;
+  each = λ n list there. slice_get-set lists k n now within ∙ ap (λ b. if b then Some now else slice_get lists n) (turned n) ∙ of_test n list there (k == n) refl;
 }
   where
+    turned : (n : ℕ) → (n == k) ≡ (k == n)
+    turned n = grind (arith, nat_tests)
+
     of_test : (n : ℕ) (list : List Spot) → slice_get lists n ≡ Some list → (b : Bool) → (k == n) ≡ b → (if b then Some now else slice_get lists n) ≡ Some (list ++ (if b then spot ∷ [] else []))
     of_test n list there true same =
         let one : k ≡ n = grind (arith, nat_tests, same) in

@@ -22,6 +22,8 @@ use Rattle.ccr_words.specs.declared.requests.Command.{Command}
 use Rattle.ccr_words.specs.declared.requests.Command.TheVariants.{Run, Verify, Record, Replay, Steps, Steady, Service, Expand}
 use Rattle.std.proofs.lemmas.Bool.{and_parts}
 use Rattle.std.proofs.Math.Bool.{and-false}
+use Rattle.ccr_base.proofs.Lists.{any_meets}
+use Rattle.ccr_base.proofs.Booleans.{refuted}
 
 -- ---- texts that no meaning takes
 
@@ -190,14 +192,7 @@ ascii_utf8 : (text : Text) → ascii text ≡ true → is_utf8 text ≡ true
 ascii_utf8 text all = is_utf8-from_IsUtf8 text (IsUtf8-from_ascii text (IsAscii-from_all text (λ k d lt. let small = AllPass-from_list_all (λ b. nat_lt b 128) text all k d lt in grind (arith, nat_tests, small))))
 
 word_ascii : (text : Text) (words : List Text) → list_all ascii words ≡ true → list_any (bytes_eq text) words ≡ true → ascii text ≡ true
-word_ascii text [] all is = absurd (cc)
-word_ascii text (w ∷ words) all is =
-    let parts = and_parts (ascii w) (list_all ascii words) all in
-    go (bytes_eq text w) refl is parts.0 (word_ascii text words parts.1)
-  where
-    go : (b : Bool) → bytes_eq text w ≡ b → (b || list_any (bytes_eq text) words) ≡ true → ascii w ≡ true → (list_any (bytes_eq text) words ≡ true → ascii text ≡ true) → ascii text ≡ true
-    go true e any first rest = ap ascii (same_word text w e) ∙ first
-    go false e any first rest = rest any
+word_ascii text words all is = let word = any_meets (bytes_eq text) ascii words is all in ap ascii (same_word text word.0 word.1) ∙ word.2
 
 fine_ascii : (p : Part) (text : Text) → takes_value p ≡ true → fine p text ≡ true → ascii text ≡ true
 fine_ascii word text takes is = word_ascii text table_words refl is
@@ -346,11 +341,7 @@ no_ascii : (w : Text) → is_utf8 w ≡ false → ascii w ≡ true → ⊥
 no_ascii w bad all = let yes = ascii_utf8 w all in cc
 
 not_fine : (p : Part) (w u : Text) → takes_value p ≡ true → is_utf8 w ≡ false → (ascii u ≡ true → ascii w ≡ true) → fine p u ≡ false
-not_fine p w u takes bad up = go (fine p u) refl
-  where
-    go : (b : Bool) → fine p u ≡ b → b ≡ false
-    go true e = absurd (no_ascii w bad (up (fine_ascii p u takes e)))
-    go false e = refl
+not_fine p w u takes bad up = refuted (fine p u) (λ e. no_ascii w bad (up (fine_ascii p u takes e)))
 
 option_name : (name : Text) (q : Part) → option_of name ≡ Some q → ascii name ≡ true
 option_name name q is = go (bytes_eq (codes "workers") name) (bytes_eq (codes "size") name) (bytes_eq (codes "schedule") name) (bytes_eq (codes "json") name) refl refl refl refl is

@@ -1,5 +1,5 @@
 -- The words as text.
-use Rattle.std.proofs.Common.{◌≡◌, ◌∙◌, ℕ, ◌+◌, ◌<◌, ◌&&◌, Bool, true, false, cond, refl, sym, ap, ap₂, List, [], ◌∷◌, ◌++◌, length, map, take, get_or, Some, None}
+use Rattle.std.proofs.Common.{◌≡◌, ◌∙◌, ℕ, ◌+◌, ◌<◌, ◌&&◌, true, cond, sym, ap, ap₂, List, [], ◌∷◌, ◌++◌, length, map, take, get_or, Some, None}
 use Rattle.std.specs.List.{list_all}
 use Rattle.std.specs.Str.{IsUtf8, is_utf8}
 use Rattle.std.specs.Borrow.{Bor}
@@ -7,6 +7,7 @@ use Rattle.std.proofs.lemmas.List.{map-append, take_more}
 use Rattle.std.proofs.lemmas.List.Folds.{list_all_at, list_all_more}
 use Rattle.std.proofs.lemmas.Str.{IsUtf8-from_is_utf8, is_utf8-from_IsUtf8}
 use Rattle.ccr_words.specs.Parsing.{texts}
+use Rattle.ccr_base.proofs.Booleans.{refuted}
 
 pub more_texts : (vs : List (Bor (List ℕ))) (words : List (List ℕ)) (i : ℕ) (w : List ℕ) (t : Bor (List ℕ)) → i < length words → w ≡ get_or words i w → t.now ≡ w
     → map (λ (v : Bor (List ℕ)). v.now) vs ≡ take i words → map (λ (v : Bor (List ℕ)). v.now) (vs ++ t ∷ []) ≡ take (i + 1) words
@@ -17,8 +18,4 @@ pub more_utf8 : (words : List (List ℕ)) (i : ℕ) (w : List ℕ) → i < lengt
 more_utf8 words i w lt at utf8 so_far = list_all_more is_utf8 words i w lt ∙ ap₂ ◌&&◌ so_far (ap is_utf8 (sym at) ∙ is_utf8-from_IsUtf8 w utf8)
 
 pub no_texts : (words : List (List ℕ)) (i : ℕ) (w : List ℕ) → i < length words → w ≡ get_or words i w → (IsUtf8 w → ⊥) → texts words ≡ None
-no_texts words i w lt at bad = ap (λ b. cond b (Some words) None) (list_all_at is_utf8 words i w lt (ap is_utf8 (sym at) ∙ go (is_utf8 w) refl))
-  where
-    go : (b : Bool) → is_utf8 w ≡ b → is_utf8 w ≡ false
-    go true e = absurd (bad (IsUtf8-from_is_utf8 w e))
-    go false e = e
+no_texts words i w lt at bad = ap (λ b. cond b (Some words) None) (list_all_at is_utf8 words i w lt (ap is_utf8 (sym at) ∙ refuted (is_utf8 w) (λ e. bad (IsUtf8-from_is_utf8 w e))))

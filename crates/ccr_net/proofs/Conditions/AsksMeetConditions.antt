@@ -29,7 +29,7 @@ use Rattle.ccr_base.proofs.Booleans.{eq-self, refuted}
 use Rattle.ccr_model.proofs.Members.{Among, Among-left}
 use Rattle.ccr_model.proofs.Roots.{running_works}
 use Rattle.ccr_base.proofs.SameNames.{same_task-is, has_task-last}
-use Rattle.ccr_base.proofs.Options.{some-below}
+use Rattle.ccr_base.proofs.Options.{some-below, some_so}
 use Rattle.ccr_places.specs.declared.claims.StandingClaim.{StandingClaim}
 use Rattle.ccr_places.specs.declared.notes.Note.{Note}
 use Rattle.ccr_places.specs.Ports.{is_claimed_by}
@@ -297,12 +297,6 @@ module _ (w : Parts) (valid : IsValid w) (n : ℕ) (lacks : Lacks) (es : List En
   work_met : (x : Asked) (wk : Work) → st.work ≡ wk → WorkMatches w (visible es) a wk → work_ask a wk ≡ Some x → Met x
   work_met x wk work match is = by wk work match is
     where
-      one : (y : Asked) → Some y ≡ Some x → Met y → Met x
-      one y now met = subst Met (inside y x now) met
-        where
-          inside : (u v : Asked) → Some u ≡ Some v → u ≡ v
-          inside u v e = cc
-
       by_end : (task : Task) (index : ℕ) (play : Play) (left : List Sent) → RunsTask w (visible es) a task index left → (end : PlayEnd) → Met (end_ask task play end)
       by_end task index play left run plays.Done = run_met task hows.Done index left run
       by_end task index play left run (plays.Failed value) = run_met task (hows.Failed value) index left run
@@ -313,13 +307,13 @@ module _ (w : Parts) (valid : IsValid w) (n : ℕ) (lacks : Lacks) (es : List En
       by_posts task index play run (sent ∷ ps) = refl
 
       by : (wk : Work) → st.work ≡ wk → WorkMatches w (visible es) a wk → work_ask a wk ≡ Some x → Met x
-      by (lines index []) at match now = one _ now (leave_met index at match)
-      by (lines index (sent ∷ sents)) at match now = one _ now (post_met sent.port _ refl)
-      by round at match now = one _ now refl
-      by (taking left queue more) at match now = one _ now refl
-      by (playing task index play) at match now = one _ now (by_posts task index play match.0 play.posts)
-      by (posting task index play sent) at match now = one _ now (post_met sent.port _ refl)
-      by (shedding task) at match now = one _ now (run_met task hows.Shed match.0 (match.1 ∷ match.2) match.3)
+      by (lines index []) at match now = some_so Met now (leave_met index at match)
+      by (lines index (sent ∷ sents)) at match now = some_so Met now (post_met sent.port _ refl)
+      by round at match now = some_so Met now refl
+      by (taking left queue more) at match now = some_so Met now refl
+      by (playing task index play) at match now = some_so Met now (by_posts task index play match.0 play.posts)
+      by (posting task index play sent) at match now = some_so Met now (post_met sent.port _ refl)
+      by (shedding task) at match now = some_so Met now (run_met task hows.Shed match.0 (match.1 ∷ match.2) match.3)
       by resting at match now = absurd (cc)
 
   -- ---- all turns
@@ -327,16 +321,10 @@ module _ (w : Parts) (valid : IsValid w) (n : ℕ) (lacks : Lacks) (es : List En
   pub turn_met : (x : Asked) → ask_in w a st (turn st) ≡ Some x → Met x
   turn_met x asks_so = by (turn st) refl asks_so
     where
-      one : (y : Asked) → Some y ≡ Some x → Met y → Met x
-      one y now met = subst Met (inside y x now) met
-        where
-          inside : (u v : Asked) → Some u ≡ Some v → u ≡ v
-          inside u v e = cc
-
       by : (tu : Turn) → turn st ≡ tu → ask_in w a st tu ≡ Some x → Met x
-      by (settle y more) turns now = one y now (settle_met y more (hand_settles st.is_short st.hand st.domains (spots_left st) y more turns))
-      by (admit i more) turns now = one _ now (admit_met w i (slice_get w.arbiters i) (notes_at es (places.Arbiter i)) (ready.numbers a i (subst (Among i) (sym (domains_admit st.is_short st.hand st.domains (spots_left st) i more turns)) (inl refl))))
-      by (drive spot more) turns now = one _ now (drive_met spot more (spots_of_left (nat_lt st.attempt (2 ^ 32)) st.spots spot more (spots_drive st.is_short st.hand st.domains (spots_left st) spot more turns).1))
+      by (settle y more) turns now = some_so Met now (settle_met y more (hand_settles st.is_short st.hand st.domains (spots_left st) y more turns))
+      by (admit i more) turns now = some_so Met now (admit_met w i (slice_get w.arbiters i) (notes_at es (places.Arbiter i)) (ready.numbers a i (subst (Among i) (sym (domains_admit st.is_short st.hand st.domains (spots_left st) i more turns)) (inl refl))))
+      by (drive spot more) turns now = some_so Met now (drive_met spot more (spots_of_left (nat_lt st.attempt (2 ^ 32)) st.spots spot more (spots_drive st.is_short st.hand st.domains (spots_left st) spot more turns).1))
       by go_on turns now = work_met x st.work refl (ready.holds.actors a).work now
       by stop turns now = absurd (cc)
 

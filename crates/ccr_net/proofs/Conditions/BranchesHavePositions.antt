@@ -1,5 +1,5 @@
 -- Where a branch stands among those of its arbiter, and that the ports of an attempt's slots differ.
-use Rattle.std.proofs.Common.{◌≡◌, ◌≤◌, ◌<◌, ℕ, ◌+◌, ◌-◌, Bool, true, false, ◌&&◌, ◌||◌, List, [], ◌∷◌, length, Option, option_map, Some, None, refl, sym, arith, ap, ◌∙◌, subst}
+use Rattle.std.proofs.Common.{◌≡◌, ◌≤◌, ◌<◌, ℕ, ◌+◌, Bool, true, false, ◌&&◌, ◌||◌, List, [], ◌∷◌, length, Option, option_map, Some, None, refl, sym, arith, ap, ◌∙◌, subst}
 use Rattle.std.specs.Prelude.{nat_lt, nat_le}
 use Rattle.std.specs.List.{slice_get, list_any}
 use Rattle.std.proofs.lemmas.Bool.Decides.{nat_tests}
@@ -19,6 +19,7 @@ use Rattle.ccr_wiring.proofs.Positions.{placement-domain}
 use Rattle.ccr_wiring.proofs.DomainsOfOwnKind.{member_fails, ArbiterOf, placement_of_arbiter}
 use Rattle.ccr_wiring.proofs.Validity.{no_codes}
 use Rattle.ccr_base.proofs.Booleans.{neither, no_both}
+use Rattle.ccr_base.proofs.Options.{some_is}
 use Rattle.ccr_base.specs.Lists.{has_number}
 use Rattle.ccr_places.specs.Arbiters as arbiters
 use Rattle.ccr_runs.specs.Places.{arbiter_after, first_branch}
@@ -67,10 +68,7 @@ branch_position w valid b s part sits at kind_so outside = of_placement (slice_g
         number = ap (λ (x : Placement). x.domain) (sym same) ∙ ap (domain_of w.domains) raw ∙ own_domain w there.index there.arbiter w.domains dangling there.at free
 
         part_so : there.arbiter ≡ part
-        part_so = inside there.arbiter part (sym there.at ∙ ap (slice_get w.arbiters) (sym number) ∙ at)
-          where
-            inside : (x y : ArbiterPart) → Some x ≡ Some y → x ≡ y
-            inside x y e = cc
+        part_so = some_is (sym there.at ∙ ap (slice_get w.arbiters) (sym number) ∙ at)
 
         low : first_branch w s.domain ≤ b
         low = subst (λ k. branches_before k w.arbiters ≤ b) (sym number) there.low

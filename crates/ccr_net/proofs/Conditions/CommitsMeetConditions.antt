@@ -52,9 +52,10 @@ pub is_given : (b : Bool) (note : Note) → b ≡ true → is_some (given b note
 is_given true note is = refl
 is_given false note is = absurd (cc)
 
--- ---- who fired by the notes of a place fired
+-- ---- who fired by what is noted
 
-shows_fired : (a : ℕ) (note : Note) (t : TaskId) → has_task (noted_fired note) t ≡ true → has_task (fired (shown a note)) t ≡ true
+-- who fired by a note fired by what it shows
+pub shows_fired : (a : ℕ) (note : Note) (t : TaskId) → has_task (noted_fired note) t ≡ true → has_task (fired (shown a note)) t ≡ true
 shows_fired a (notes.Fired u s ms cs) t is = is
 shows_fired a (notes.Post m) t is = absurd (cc)
 shows_fired a (notes.Claim u s r) t is = absurd (cc)
@@ -72,7 +73,8 @@ shows_fired a (notes.Draw n) t is = absurd (cc)
 shows_fired a notes.Leave t is = absurd (cc)
 shows_fired a (notes.Left n) t is = absurd (cc)
 
-noted_has_fired : (es : List Entry) (place : Place) (t : TaskId) → has_task (fired_there (notes_at es place)) t ≡ true → has_task (fired (visible es)) t ≡ true
+-- who fired by the notes of a place fired
+pub noted_has_fired : (es : List Entry) (place : Place) (t : TaskId) → has_task (fired_there (notes_at es place)) t ≡ true → has_task (fired (visible es)) t ≡ true
 noted_has_fired [] place t is = absurd (cc)
 noted_has_fired (e ∷ es) place t is = subst (λ ts. has_task ts t ≡ true) (sym (fired-append (event_of e) (visible es))) (of_more (fired_there (note_at place e)) (fired_there (notes_at es place)) t _ (subst (λ ts. has_task ts t ≡ true) (split (note_at place e) (notes_at es place)) is) (λ now. among_left (fired (event_of e)) (fired (visible es)) t (here (same_place e.place place) now)) (λ now. among_right (fired (event_of e)) (fired (visible es)) t (noted_has_fired es place t now)))
   where

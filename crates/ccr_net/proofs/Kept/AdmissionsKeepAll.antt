@@ -17,6 +17,7 @@ use Rattle.ccr_model.specs.Firings.{Firing, fired, put, cut, ever_admitted}
 use Rattle.ccr_model.specs.Posts.{taken}
 use Rattle.ccr_model.specs.Rules.{needs_no_admission}
 use Rattle.ccr_base.proofs.Booleans.{refuted, no_both, or_right}
+use Rattle.ccr_base.proofs.Options.{some_is}
 use Rattle.ccr_model.proofs.Cutting.{CutFacts-legal, waits_unput}
 use Rattle.ccr_model.proofs.AllowedFirings.{waits_outside}
 use Rattle.ccr_model.proofs.LegalParts.{legal_push}
@@ -25,7 +26,6 @@ use Rattle.ccr_base.proofs.SameNames.{same_task-self}
 use Rattle.ccr_model.proofs.Stable.{firing_named-append}
 use Rattle.ccr_model.proofs.TaskLists.{of_one, among_right}
 use Rattle.ccr_model.proofs.Queued.{queued-other}
-use Rattle.ccr_places.specs.declared.notes.Note.{Note}
 use Rattle.ccr_places.specs.declared.notes.Note.TheVariants as notes
 use Rattle.ccr_places.specs.Interleaves.{InterleaveState, Waiting}
 use Rattle.ccr_places.specs.Interleaves as interleaves
@@ -139,10 +139,7 @@ module _ (w : Parts) (n : ℕ) (lacks : Lacks) (es : List Entry) (e : Entry) (lo
 
       -- who waits is in nobody's hand
       waited : IsToPut w h t → ⊥
-      waited is = no_both (subst (λ (f : Firing). needs_no_admission w f.spot || has_task (ever_admitted h) t ≡ true) (inside is.fires.0 found.facts.firing (sym is.fires.1 ∙ found.facts.is_firing)) is.entered) (waits_outside w h i t found.facts)
-        where
-          inside : (f g : Firing) → Some f ≡ Some g → f ≡ g
-          inside f g same' = cc
+      waited is = no_both (subst (λ (f : Firing). needs_no_admission w f.spot || has_task (ever_admitted h) t ≡ true) (some_is (sym is.fires.1 ∙ found.facts.is_firing)) is.entered) (waits_outside w h i t found.facts)
 
   pub admit_kept : (i : ℕ) (more : List ℕ) → turn before ≡ admit i more → Done
   admit_kept i more turns = by_part (slice_get w.arbiters i) refl got.gives
@@ -152,9 +149,6 @@ module _ (w : Parts) (n : ℕ) (lacks : Lacks) (es : List Entry) (e : Entry) (lo
 
       state : InterleaveState
       state = domain_at w es i
-
-      inside : {a b : Note} → Some a ≡ Some b → b ≡ a
-      inside is = cc
 
       admitted_so : is_interleave_number w i ≡ true → e.note ≡ notes.Admit (interleaves.admit_note state) → Done
       admitted_so number note = by_list state.waiting refl (note ∙ refl)
@@ -174,4 +168,4 @@ module _ (w : Parts) (n : ℕ) (lacks : Lacks) (es : List Entry) (e : Entry) (lo
           by_kind : (kind : Kind) → part.kind ≡ kind → note_by_kind w i kind part (notes_at es (places.Arbiter i)) asks.Admit ≡ Some e.note → Done
           by_kind kinds.Receive k now = absurd (cc)
           by_kind kinds.Choice k now = absurd (cc)
-          by_kind kinds.Interleave k now = admitted_so (rw (is, k) refl) (inside now)
+          by_kind kinds.Interleave k now = admitted_so (rw (is, k) refl) (sym (some_is now))

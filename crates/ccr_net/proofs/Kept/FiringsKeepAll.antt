@@ -31,17 +31,17 @@ use Rattle.ccr_model.specs.Legal.{IsAllowed}
 use Rattle.ccr_model.specs.Posts.{posts, posts_of_task, held, taken}
 use Rattle.ccr_model.specs.TaskData.{placement_of}
 use Rattle.ccr_model.specs.Tasks.{queued, is_for_queue, is_branch_where, running_by}
-use Rattle.ccr_base.proofs.Booleans.{same_number, eq-self, refuted, no_both, or_left, or_right}
+use Rattle.ccr_base.proofs.Booleans.{same_number, eq-self, refuted, no_both}
 use Rattle.ccr_model.proofs.FiredTasks.{IsFired, IsFired-append, fired_has}
 use Rattle.ccr_model.proofs.LegalParts.{legal_push}
 use Rattle.ccr_model.proofs.Members.{Among, Among-kept}
-use Rattle.ccr_base.proofs.Options.{some_of}
+use Rattle.ccr_base.proofs.Options.{some_of, some_so}
 use Rattle.ccr_model.proofs.PostNames.{AreNamed}
 use Rattle.ccr_model.proofs.OneMoreEvent.{posts-push, put-push, cut-push}
 use Rattle.ccr_base.proofs.SameNames.{same_task-self}
 use Rattle.ccr_model.proofs.TaskSteps.{queued-fire}
 use Rattle.ccr_model.proofs.FiringPlacements.{firing_with_placement}
-use Rattle.ccr_model.proofs.TaskLists.{without-append, has_oldest, among_left, among_right, not_more, of_one}
+use Rattle.ccr_model.proofs.TaskLists.{without-append, has_oldest, among_left, among_right, not_more, of_one, made_names}
 use Rattle.ccr_model.proofs.WhoWasPut.{ArePlaced-legal, QueuedFacts, QueuedFacts-queued}
 use Rattle.ccr_places.specs.declared.notes.Note.TheVariants as notes
 use Rattle.ccr_places.specs.Queues as queues
@@ -141,11 +141,6 @@ module _ (w : Parts) (n : ℕ) (first : PlainFacts w) (few : n ≤ 33) (lacks : 
           longer : d.slot ∷ x.slot ∷ (map slot_had more ++ []) ≡ any_slot port 1 1 ∷ [] → ⊥
           longer e' = absurd (let counts : length (d.slot ∷ x.slot ∷ (map slot_had more ++ [])) ≡ 1 = ap length e' in omega (arith, counts))
 
-  cut_names : (f : TaskId → Cut) → ((u : TaskId) → (f u).task ≡ u) → (ts : List TaskId) (c : Cut) → Among c (map f ts) → has_task ts c.task ≡ true
-  cut_names f named [] c is = absurd is
-  cut_names f named (u ∷ ts) c (inl e') = or_left (same_task c.task u) (has_task ts c.task) (ap (λ v. same_task v u) (ap (λ (d : Cut). d.task) e' ∙ named u) ∙ same_task-self u)
-  cut_names f named (u ∷ ts) c (inr is) = or_right (same_task c.task u) (has_task ts c.task) (cut_names f named ts c is)
-
   -- what a firing at the spot shows at its place
   pub record FiresAt (spot : Spot) (more : List Spot) : Type 0 where
     pub place : Place
@@ -174,7 +169,7 @@ module _ (w : Parts) (n : ℕ) (first : PlainFacts w) (few : n ≤ 33) (lacks : 
     queues = rw (same_queues w es e at_spot.place at_spot.there at_spot.no_queue) (record { listed = QueuesMatch-event w h event (queue_at w es) (λ q. queued-fire w h q t spot ms cs unput) holds.queues.listed; booked = BookingsMatch-fire w h t spot ms cs (queue_at w es) unput at_spot.booked holds.queues.listed holds.queues.booked });
     under_way = same_under_way w lacks es e at_spot.place next at_spot.there at_spot.no_queue tt;
     own = rw same (record {
-      claims = ActorMatches-fire w h (port_at es) e.actor before spot spot more ms handed cut_now cs holds.legal (cut_names (cut_view w (h ++ event ∷ [])) (λ u. refl) cs) (whole (waits w spot) refl) at_spot.allowed unput own;
+      claims = ActorMatches-fire w h (port_at es) e.actor before spot spot more ms handed cut_now cs holds.legal (made_names (cut_view w (h ++ event ∷ [])) (λ (c : Cut). c.task) (λ u. refl) cs) (whole (waits w spot) refl) at_spot.allowed unput own;
       work = WorkMatches-same w h event e.actor before.work (says e.actor) (holds.actors e.actor).work;
       fits = record { spots_so = λ x is. driven x (nat_lt (before.fired + 1) 32768) is; phase_so = tt };
     });
@@ -316,10 +311,7 @@ module _ (w : Parts) (n : ℕ) (first : PlainFacts w) (few : n ≤ 33) (lacks : 
       -- the root of the task that is dropped is over
       over : (o : Option TaskId) → d ≡ o → (task : Task) → option_map (view w (h ++ event ∷ [])) d ≡ Some task → is_over (h ++ event ∷ []) task.root ≡ true
       over None none task is = absurd (let nothing : option_map (view w (h ++ event ∷ [])) None ≡ Some task = subst (λ p. option_map (view w (h ++ event ∷ [])) p ≡ Some task) none is in cc)
-      over (Some y) some task is = subst (λ (z : Task). is_over (h ++ event ∷ []) z.root ≡ true) (inside _ task (subst (λ p. option_map (view w (h ++ event ∷ [])) p ≡ Some task) some is)) (over_now h event y (subst (λ p. has_task (option_to_list p) y ≡ true) (sym some) (ap (λ b. b || false) (same_task-self y))))
-        where
-          inside : (a b : Task) → Some a ≡ Some b → a ≡ b
-          inside a b e' = cc
+      over (Some y) some task is = some_so (λ (z : Task). is_over (h ++ event ∷ []) z.root ≡ true) (subst (λ p. option_map (view w (h ++ event ∷ [])) p ≡ Some task) some is) (over_now h event y (subst (λ p. has_task (option_to_list p) y ≡ true) (sym some) (ap (λ b. b || false) (same_task-self y))))
 
       same : port_at (es ++ e ∷ []) ≡ port_at es
       same = same_ports es e (places.Queue q) place refl

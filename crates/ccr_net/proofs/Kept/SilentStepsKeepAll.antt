@@ -1,5 +1,5 @@
 -- Steps that show nothing: what is settled, bookings, claims, refusals, rounds and the meter.
-use Rattle.std.proofs.Common.{◌⊎◌, inl, inr, ◌≡◌, ◌≢◌, ◌≤◌, ◌<◌, ℕ, zero, suc, ◌^◌, min, Bool, true, false, List, [], ◌∷◌, ◌++◌, length, Option, Some, None, refl, sym, arith, ap, ◌∙◌, subst, append-nil, length-take, length-take-le}
+use Rattle.std.proofs.Common.{◌⊎◌, inl, inr, ◌≡◌, ◌≢◌, ◌≤◌, ◌<◌, ℕ, ◌^◌, min, Bool, true, false, List, [], ◌∷◌, ◌++◌, length, Option, Some, None, refl, sym, arith, ap, ◌∙◌, subst, append-nil, length-take, length-take-le}
 use Rattle.std.specs.Prelude.{◌==◌, if◌then◌else◌, nat_lt, nat_le}
 use Rattle.std.specs.Option.{option_map_or}
 use Rattle.std.proofs.lemmas.Bool.Decides.{nat_tests}
@@ -21,6 +21,7 @@ use Rattle.ccr_model.specs.Tasks.{is_over}
 use Rattle.ccr_model.proofs.FiredTasks.{fired_has}
 use Rattle.ccr_model.proofs.TaskLists.{among_right}
 use Rattle.ccr_base.proofs.Booleans.{same_number, no_both}
+use Rattle.ccr_base.proofs.Options.{some_is}
 use Rattle.ccr_model.proofs.Members.{Among}
 use Rattle.ccr_model.proofs.Cutting.{cut_fired}
 use Rattle.ccr_base.proofs.SameNames.{same_task-is}
@@ -195,11 +196,8 @@ module _ (w : Parts) (n : ℕ) (lacks : Lacks) (es : List Entry) (e : Entry) (lo
       stays q c true at_q is own =
           let same : p ≡ q = same_number p q at_q in
           let stood : (port_at es q).claim ≡ Some found.claim = subst (λ k. (port_at es k).claim ≡ Some found.claim) same found.stands in
-          let one : found.claim ≡ c = inside found.claim c (sym stood ∙ is) in
+          let one : found.claim ≡ c = some_is (sym stood ∙ is) in
           absurd (other (found.own ∙ ap (λ (d : StandingClaim). d.task) one ∙ own))
-        where
-          inside : (c d : StandingClaim) → Some c ≡ Some d → c ≡ d
-          inside c d is = cc
       stays q c false at_q is own = rw (changes q, at_q) (is, refl)
 
   pub step_consume : (p : ℕ) (t : TaskId) (x : Asked) (more : List Asked) → e.place ≡ places.Port p → e.note ≡ notes.Consume t → turn before ≡ settle x more → (t.actor ≡ e.actor) × (has_task (fired h) t ≡ true) → Claims (port_at es p) t → Holds w n lacks (es ++ e ∷ [])

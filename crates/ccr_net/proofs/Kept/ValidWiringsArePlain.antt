@@ -30,7 +30,7 @@ use Rattle.ccr_wiring.proofs.Soundness.{sound}
 use Rattle.ccr_wiring.proofs.Validity.{no_codes}
 use Rattle.ccr_model.specs.Tasks.{is_interleave}
 use Rattle.ccr_base.proofs.Booleans.{both}
-use Rattle.ccr_base.proofs.Options.{drop-next}
+use Rattle.ccr_base.proofs.Options.{drop-next, some_is}
 use Rattle.ccr_base.proofs.Lists.{none_at}
 use Rattle.ccr_model.proofs.Members.{Among, Among-either, index_of}
 use Rattle.ccr_actor.specs.Actors.{play_in}
@@ -78,13 +78,7 @@ its_branch w b i s part one sits at is number = of_placement (slice_get (placeme
   where
     of_placement : (o : Option Placement) → option_map (in_domain w.domains) o ≡ Some s → option_map (λ (r : Placement). r.branch) o ≡ Some one → s.branch ≡ one
     of_placement None here there = absurd (cc)
-    of_placement (Some r) here there = sym (inside _ s here) ∙ same _ one there
-      where
-        inside : (x y : Placement) → Some x ≡ Some y → x.branch ≡ y.branch
-        inside x y e = let one' : x ≡ y = cc in ap (λ (z : Placement). z.branch) one'
-
-        same : (x y : BranchPart) → Some x ≡ Some y → x ≡ y
-        same x y e = cc
+    of_placement (Some r) here there = ap (λ (z : Placement). z.branch) (sym (some_is here)) ∙ some_is there
 
 retires_so : (w : Parts) → IsValid w → (b : ℕ) (s : Placement) (part : ArbiterPart) → placement w b ≡ Some s → slice_get w.arbiters s.domain ≡ Some part → is_interleave s.kind ≡ false → arbiters.has_spot (arbiter_after (first_branch w s.domain) part []) (Branch b) ≡ true → Retires w s part
 retires_so w valid b s part sits at outside here = by s.kind s.branch.group refl refl (all.groups b s sits) outside

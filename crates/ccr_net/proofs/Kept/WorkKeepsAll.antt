@@ -28,7 +28,7 @@ use Rattle.ccr_model.specs.Firings.{ended, yielded_by}
 use Rattle.ccr_model.proofs.FiredTasks.{IsFired, IsFired-append}
 use Rattle.ccr_model.specs.Tasks.{running, running_by, has_post_left, unfinished, count_unfinished}
 use Rattle.ccr_base.proofs.Booleans.{same_number, eq-self, or_right}
-use Rattle.ccr_base.proofs.Options.{no_some, drop-next, drop-end}
+use Rattle.ccr_base.proofs.Options.{no_some, drop-next, drop-end, some_is}
 use Rattle.ccr_model.proofs.OneMoreEvent.{posts-push}
 use Rattle.ccr_base.proofs.SameNames.{same_value-self}
 use Rattle.ccr_model.proofs.TaskLists.{to_filter}
@@ -153,22 +153,16 @@ module _ (w : Parts) (n : ℕ) (first : PlainFacts w) (few : n ≤ 33) (lacks : 
     where
       left_by : Given w es e (at_place places.Meter asks.Left) → Done
       left_by got =
-          let note : e.note ≡ notes.Left (meter_at w es).left = inside got.gives in
+          let note : e.note ≡ notes.Left (meter_at w es).left = sym (some_is got.gives) in
           let looks = looks_on (meter_at w es).left 0 w.queues in
           at_meter_quiet (take_from w before (meter_at w es).left 0 w.queues) (notes.Left (meter_at w es).left) got.there note (rw note refl) turns (rw (turns, work, note) refl) looks.on (looks.work idle) refl refl (looks.unposting ∙ rw work refl) (λ shed. absurd (let out = looks.unshedding in cc))
-        where
-          inside : {a b : Note} → Some a ≡ Some b → b ≡ a
-          inside is = cc
 
   -- a take
   take_kept : (left q : ℕ) (parts : List QueuePart) → before.work ≡ taking left q parts → turn before ≡ go_on → Idle w h e.actor → Done
   take_kept left q parts work turns idle = taken_by (given_to w lacks es e step go_on _ turns (ap (work_ask e.actor) work))
     where
-      inside : {a b : Note} → Some a ≡ Some b → b ≡ a
-      inside is = cc
-
       taken_by : Given w es e (at_place (places.Queue q) asks.Take) → Done
-      taken_by got = by_note (queues.take_note (queue_at w es q)) refl (inside got.gives)
+      taken_by got = by_note (queues.take_note (queue_at w es q)) refl (sym (some_is got.gives))
         where
           by_note : (o : Option TaskId) → queues.take_note (queue_at w es q) ≡ o → e.note ≡ notes.Take o → Done
           by_note (Some t) is note = step_start w n first few lacks es e low holds q t got.there note (takes (queue_at w es q) t is) turns idle (rw work refl) (rw work refl) (rw (shows_so, turns, work, note) refl)
@@ -245,12 +239,9 @@ module _ (w : Parts) (n : ℕ) (first : PlainFacts w) (few : n ≤ 33) (lacks : 
           all : length (play_of w h task.id).posts ≤ posts_of_task h task.id
           all = subst (λ k. length (play_of w h task.id).posts ≤ k) run.index_so (subst (λ (p : Play). length p.posts ≤ index) (play_so task index play.posts run) (drop-end index (play_in w task).posts (sym none ∙ run.left_so)))
 
-          inside : {a b : Note} → Some a ≡ Some b → b ≡ a
-          inside same = cc
-
           suspends : Given w es e (at_place (places.Site (branch_of task.spot) (segment_of task.spot)) (asks.Suspend (record task { causes = play.causes }))) → Done
           suspends got =
-              let note : e.note ≡ notes.Suspend task.id = inside got.gives in
+              let note : e.note ≡ notes.Suspend task.id = sym (some_is got.gives) in
               step_suspend w n first few lacks es e low holds task index play.posts got.there note turns run (rw work refl) (rw (turns, work, none, pe) refl)
               (end_allowed w h task.id ends.Yield (runs h e.actor task.id run.alone) all refl (rw (sym end_so ∙ pe) refl)) (first.sites_so task site (sym is.1 ∙ pe))
 
@@ -258,11 +249,8 @@ module _ (w : Parts) (n : ℕ) (first : PlainFacts w) (few : n ≤ 33) (lacks : 
       by_posts [] none = by_end none play.end refl
       by_posts (sent ∷ ps) some = draws (given_to w lacks es e step go_on _ turns (ap (work_ask e.actor) work ∙ rw some refl))
         where
-          inside : {a b : Note} → Some a ≡ Some b → b ≡ a
-          inside is = cc
-
           draws : Given w es e (at_place places.Meter asks.Draw) → Done
-          draws got = by_room (nat_lt (meter_at w es).drawn (meter_at w es).budget) refl (inside got.gives)
+          draws got = by_room (nat_lt (meter_at w es).drawn (meter_at w es).budget) refl (sym (some_is got.gives))
             where
               posting_run : RunsTask w h e.actor task index (sent ∷ ps)
               posting_run = subst (RunsTask w h e.actor task index) some run

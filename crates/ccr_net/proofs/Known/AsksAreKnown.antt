@@ -16,7 +16,7 @@ use Rattle.ccr_base.specs.declared.patterns.Slot.{Slot}
 use Rattle.ccr_base.specs.declared.tasks.How.{How}
 use Rattle.ccr_base.specs.declared.tasks.Task.{Task}
 use Rattle.ccr_base.specs.Names.{has_task}
-use Rattle.ccr_base.proofs.Options.{no_some, drop-next}
+use Rattle.ccr_base.proofs.Options.{no_some, drop-next, some_is, some_so}
 use Rattle.ccr_handler.specs.declared.segments.Play.{Play}
 use Rattle.ccr_handler.specs.declared.segments.PlayEnd.{PlayEnd}
 use Rattle.ccr_handler.specs.declared.segments.PlayEnd.TheVariants as plays
@@ -307,9 +307,6 @@ module _ (w : Parts) (valid : IsValid w) (plain : PlainFacts w) (n : ℕ) (lacks
       at_spot (Site b k) fits = fits
 
   -- work between drives
-  inside : {x y : Asked} → Some x ≡ Some y → x ≡ y
-  inside is = cc
-
   sent_named : (sent : Sent) (m : Msg) → IsSentFine w all sent → m.port ≡ sent.port → m.causes ≡ sent.causes → IsNamed w (record { place = places.Port sent.port; ask = asks.Post m })
   sent_named sent m fine port causes = record { place = fine.port; ask = (subst (λ p. p < length w.ports) (sym port) fine.port, subst (AreCausesOf w) (sym causes) (fine_causes w sent.causes fine.causes)) }
 
@@ -336,35 +333,29 @@ module _ (w : Parts) (valid : IsValid w) (plain : PlainFacts w) (n : ℕ) (lacks
   work_named : (work : Work) → WorkMatches w h a work → WorkReaches w work → CausesTell w work → (x : Asked) → work_ask a work ≡ Some x → IsNamed w x
   work_named work match low tells x is = by work match low tells is
     where
-      one : (y : Asked) → IsNamed w y → Some y ≡ Some x → IsNamed w x
-      one y named same = subst (IsNamed w) (inside same) named
-
       of_posts : (task : Task) (index : ℕ) (play : Play) → RunsTask w h a task index play.posts → play.end ≡ (play_in w task).end → play.causes ≡ (play_in w task).causes → (ps : List Sent) → IsNamed w (play_ask task play ps)
       of_posts task index play run ends causes [] = end_named task index play run ends causes play.end refl
       of_posts task index play run ends causes (sent ∷ ps) = record { place = tt; ask = tt }
 
       by : (work : Work) → WorkMatches w h a work → WorkReaches w work → CausesTell w work → work_ask a work ≡ Some x → IsNamed w x
-      by (lines index []) match low tells is = one _ (record { place = tt; ask = tt }) is
+      by (lines index []) match low tells is = some_so (IsNamed w) is (record { place = tt; ask = tt })
       by (lines index (sent ∷ sents)) match low tells is =
           let line = (drop-next index match.poster.posts sent sents match.left_so).0 in
-          one _ (sent_named sent _ (script_fine w all a match.poster index sent match.is_poster line) refl refl) is
-      by round match low tells is = one _ (record { place = tt; ask = tt }) is
-      by (taking left q more) match low tells is = one _ (record { place = omega (arith, low); ask = tt }) is
-      by (playing task index play) match low tells is = one _ (of_posts task index play match.0 match.1 tells play.posts) is
+          some_so (IsNamed w) is (sent_named sent _ (script_fine w all a match.poster index sent match.is_poster line) refl refl)
+      by round match low tells is = some_so (IsNamed w) is (record { place = tt; ask = tt })
+      by (taking left q more) match low tells is = some_so (IsNamed w) is (record { place = omega (arith, low); ask = tt })
+      by (playing task index play) match low tells is = some_so (IsNamed w) is (of_posts task index play match.0 match.1 tells play.posts)
       by (posting task index play sent) match low tells is =
           let line = (drop-next index (play_in w task).posts sent play.posts match.0.left_so).0 in
           let there : Among sent (play_of w h task.id).posts = subst (λ (p : Play). Among sent p.posts) (play_so task index (sent ∷ play.posts) match.0) (Among-at (play_in w task).posts index sent line) in
-          one _ (sent_named sent _ ((play_of-fine w all h (posted_fine w all h holds.legal) task.id).posts sent there) refl refl) is
-      by (shedding task) match low tells is = one _ (over_named task _ (task_domain task match.0 (match.1 ∷ match.2) match.3)) is
+          some_so (IsNamed w) is (sent_named sent _ ((play_of-fine w all h (posted_fine w all h holds.legal) task.id).posts sent there) refl refl)
+      by (shedding task) match low tells is = some_so (IsNamed w) is (over_named task _ (task_domain task match.0 (match.1 ∷ match.2) match.3))
       by resting match low tells is = absurd (cc)
 
   -- the next ask, which its place gives a note to
   pub ask_named : (x : Asked) (note : Note) → asked w a st ≡ Some x → note_of w x.place (notes_at es x.place) x.ask ≡ Some note → IsNamed w x
   ask_named x note asks_so gives = by (turn st) refl asks_so
     where
-      one : (y : Asked) → IsNamed w y → Some y ≡ Some x → IsNamed w x
-      one y named same = subst (IsNamed w) (inside same) named
-
       attempts : (spot : Spot) (more : List Spot) → spots_left st ≡ spot ∷ more → (SpotFits w spot) × ((slots : List Slot) (had : List Had) → st.phase ≡ claiming slots had → Fits (pattern_at w spot) slots had)
       attempts spot more list = of_test (nat_lt st.attempt (2 ^ 32)) list
         where
@@ -378,12 +369,12 @@ module _ (w : Parts) (valid : IsValid w) (plain : PlainFacts w) (n : ℕ) (lacks
       by : (tu : Turn) → turn st ≡ tu → ask_in w a st tu ≡ Some x → IsNamed w x
       by (settle y more) turns same =
           let among : Among y st.hand = subst (Among y) (sym (hand_settles st.is_short st.hand st.domains (spots_left st) y more turns)) (inl refl) in
-          let e : y ≡ x = inside same in
+          let e : y ≡ x = some_is same in
           let both = owed_named y.place y.ask note ((holds.actors a).claims.owed y among) ((handed a).hands y among) (subst (λ (z : Asked). note_of w z.place (notes_at es z.place) z.ask ≡ Some note) (sym e) gives) in
           subst (IsNamed w) e (record { place = both.0; ask = both.1 })
-      by (admit i more) turns same = one _ (record { place = domain_place w valid i (reach.domains i (subst (Among i) (sym (domains_admit st.is_short st.hand st.domains (spots_left st) i more turns)) (inl refl))); ask = tt }) same
+      by (admit i more) turns same = some_so (IsNamed w) same (record { place = domain_place w valid i (reach.domains i (subst (Among i) (sym (domains_admit st.is_short st.hand st.domains (spots_left st) i more turns)) (inl refl))); ask = tt })
       by (drive spot more) turns same =
           let found = attempts spot more (spots_drive st.is_short st.hand st.domains (spots_left st) spot more turns).1 in
-          one _ (drive_named spot found.0 st.phase refl found.1) same
+          some_so (IsNamed w) same (drive_named spot found.0 st.phase refl found.1)
       by go_on turns same = work_named st.work (holds.actors a).work reach.works (handed a).plays x same
       by stop turns same = absurd (cc)

@@ -1,20 +1,18 @@
 -- Along a legal history each message names a port and causes of the wiring, and so does each play; no cause stands twice.
-use Rattle.std.proofs.Common.{◌⊎◌, inl, inr, ◌≡◌, ◌<◌, ℕ, zero, suc, Bool, true, false, not, ◌&&◌, ◌||◌, List, [], ◌∷◌, ◌++◌, length, filter, flat_map, Option, Some, None, refl, sym, arith, ap, ◌∙◌, subst}
-use Rattle.std.specs.Prelude.{◌==◌, All, if◌then◌else◌, option_map, option_to_list, slice_get}
-use Rattle.std.specs.Option.{option_and_then, option_map_or}
-use Rattle.std.proofs.lemmas.Bool.Decides.{nat_tests}
+use Rattle.std.proofs.Common.{inl, inr, ◌≡◌, ◌<◌, ℕ, zero, suc, Bool, true, false, not, List, [], ◌∷◌, length, flat_map, Option, Some, None, refl, sym, subst}
+use Rattle.std.specs.Prelude.{◌==◌, All, if◌then◌else◌, nat_lt, option_map, option_to_list, slice_get}
+use Rattle.std.specs.List.{list_all}
+use Rattle.std.specs.Option.{option_map_or}
+use Rattle.std.proofs.lemmas.Bool.{lt-ltb, ltb-true}
 use Rattle.std.proofs.lemmas.List.Elements.{All-cons, All-nil}
 use Rattle.ccr_base.specs.declared.handlers.Action.{Action}
 use Rattle.ccr_base.specs.declared.handlers.Action.TheVariants as actions
 use Rattle.ccr_base.specs.declared.messages.Msg.{Msg}
 use Rattle.ccr_base.specs.declared.messages.Sent.{Sent}
-use Rattle.ccr_base.specs.declared.names.MsgId.{MsgId}
 use Rattle.ccr_base.specs.declared.names.MsgId.TheVariants as names
 use Rattle.ccr_base.specs.declared.names.Spot.{Spot}
 use Rattle.ccr_base.specs.declared.names.Spot.TheVariants.{Site}
 use Rattle.ccr_base.specs.declared.names.TaskId.{TaskId}
-use Rattle.ccr_base.specs.Names.{has_task, same_lists}
-use Rattle.ccr_base.specs.Values.{same_value}
 use Rattle.ccr_cause.specs.Causes.{union, with_cause, without_cause}
 use Rattle.ccr_handler.specs.declared.segments.Play.{Play}
 use Rattle.ccr_handler.specs.Evaluating.{value_of}
@@ -24,24 +22,19 @@ use Rattle.ccr_wiring.specs.declared.parts.PosterPart.{PosterPart}
 use Rattle.ccr_wiring.specs.Valid.{IsActionNamed, IsSound}
 use Rattle.ccr_wiring.specs.Wirings.{Placement, actions_of, branch_of, exception_port, placement, segment_of, actions_at}
 use Rattle.ccr_model.specs.declared.history.Event.{Event}
-use Rattle.ccr_model.specs.declared.history.Event.TheVariants as events
 use Rattle.ccr_model.specs.Firings.{spot_of}
-use Rattle.ccr_model.specs.Legal.{IsAllowed, IsLegal}
-use Rattle.ccr_model.specs.Posts.{post_of, posts, posts_of_poster, posts_of_task}
-use Rattle.ccr_model.specs.Rules.{is_play_post, is_post, is_script_line, refusal_of_post}
+use Rattle.ccr_model.specs.Legal.{IsLegal}
+use Rattle.ccr_model.specs.Posts.{posts}
 use Rattle.ccr_model.specs.Sites.{resumed}
 use Rattle.ccr_model.specs.TaskData.{Load, load_after, load_at, load_of, messages_of, no_load, no_play, play_at, play_of, with_messages}
-use Rattle.ccr_model.specs.Tasks.{running}
-use Rattle.ccr_base.proofs.Booleans.{both, same_number, not_true}
-use Rattle.ccr_model.proofs.Members.{Among, Among-either, Among-at, Among-kept, index_of}
-use Rattle.ccr_base.proofs.Options.{some_of, some_then}
-use Rattle.ccr_base.specs.Lists.{has_number, are_apart}
-use Rattle.ccr_base.proofs.SameNames.{same_numbers-is}
-use Rattle.ccr_model.proofs.PostNames.{along, refused_not}
-use Rattle.ccr_model.proofs.OneMoreEvent.{posts-push}
+use Rattle.ccr_model.proofs.Members.{Among, Among-kept, index_of, all_from, all_pass, spread_some}
+use Rattle.ccr_base.specs.Lists.{are_apart}
+use Rattle.ccr_base.proofs.Apart.{apart_kept}
+use Rattle.ccr_model.proofs.PostNames.{IsPost}
+use Rattle.ccr_model.proofs.PostedMessages.{each_posted, post_allowed}
 use Rattle.ccr_model.proofs.TakenWerePosted.{took_among}
 use Rattle.ccr_claim.specs.Wired.{AreCausesOf}
-use Rattle.ccr_claim.proofs.CausesStandOnce.{with_apart, union_apart}
+use Rattle.ccr_claim.proofs.CausesStandOnce.{with_apart, with_all, union_apart, union_all}
 
 -- ---- lists of causes
 
@@ -60,47 +53,21 @@ fine_causes w causes fine = (all_of (λ c. c < length w.causes) causes fine.belo
 none_fine : (n : ℕ) → AreFine n []
 none_fine n = record { below = λ c is. absurd is; apart = refl }
 
-with_below : (n : ℕ) (causes : List ℕ) (c : ℕ) → ((d : ℕ) → Among d causes → d < n) → c < n → (d : ℕ) → Among d (with_cause causes c) → d < n
-with_below n causes c low one d among = by (has_number causes c) among
-  where
-    of_both : Among d causes ⊎ Among d (c ∷ []) → d < n
-    of_both (inl is) = low d is
-    of_both (inr (inl e)) = subst (λ k. k < n) (sym e) one
-    of_both (inr (inr none)) = absurd none
+-- what holds of each, as a test that all pass, and back
+below_all : (n : ℕ) (xs : List ℕ) → ((c : ℕ) → Among c xs → c < n) → list_all (λ d. nat_lt d n) xs ≡ true
+below_all n xs low = all_from (λ d. nat_lt d n) xs (λ c is. lt-ltb c n (low c is))
 
-    by : (b : Bool) → Among d (if b then causes else causes ++ c ∷ []) → d < n
-    by true is = low d is
-    by false is = of_both (Among-either d causes (c ∷ []) is)
+all_below : (n : ℕ) (xs : List ℕ) → list_all (λ d. nat_lt d n) xs ≡ true → (c : ℕ) → Among c xs → c < n
+all_below n xs all c is = ltb-true c n (all_pass (λ d. nat_lt d n) xs c all is)
 
 with_fine : (n : ℕ) (causes : List ℕ) (c : ℕ) → AreFine n causes → c < n → AreFine n (with_cause causes c)
-with_fine n causes c fine low = record { below = with_below n causes c fine.below low; apart = with_apart causes c fine.apart }
-
-filter_out : (p : ℕ → Bool) (xs : List ℕ) (x : ℕ) → has_number xs x ≡ false → has_number (filter p xs) x ≡ false
-filter_out p [] x out = refl
-filter_out p (y ∷ xs) x out = by (p y) (y == x) refl out (filter_out p xs x)
-  where
-    by : (b c : Bool) → (y == x) ≡ c → c || has_number xs x ≡ false → (has_number xs x ≡ false → has_number (filter p xs) x ≡ false) → has_number (if b then y ∷ filter p xs else filter p xs) x ≡ false
-    by true false is rest more = ap (λ t. t || has_number (filter p xs) x) is ∙ more rest
-    by false false is rest more = more rest
-    by b true is rest more = absurd (cc)
-
-filter_apart : (p : ℕ → Bool) (xs : List ℕ) → are_apart xs ≡ true → are_apart (filter p xs) ≡ true
-filter_apart p [] apart = refl
-filter_apart p (x ∷ xs) apart = by (p x) (both (not (has_number xs x)) (are_apart xs) apart).0 (filter_apart p xs (both (not (has_number xs x)) (are_apart xs) apart).1)
-  where
-    by : (b : Bool) → not (has_number xs x) ≡ true → are_apart (filter p xs) ≡ true → are_apart (if b then x ∷ filter p xs else filter p xs) ≡ true
-    by true here rest = rw (filter_out p xs x (not_true (has_number xs x) here)) rest
-    by false here rest = rest
+with_fine n causes c fine low = record { below = all_below n (with_cause causes c) (with_all (λ d. nat_lt d n) causes c (below_all n causes fine.below) (lt-ltb c n low)); apart = with_apart causes c fine.apart }
 
 without_fine : (n : ℕ) (causes : List ℕ) (c : ℕ) → AreFine n causes → AreFine n (without_cause causes c)
-without_fine n causes c fine = record { below = λ d is. fine.below d (Among-kept (λ other. not (other == c)) causes d is); apart = filter_apart (λ other. not (other == c)) causes fine.apart }
-
-union_below : (n : ℕ) (causes more : List ℕ) → ((d : ℕ) → Among d causes → d < n) → ((d : ℕ) → Among d more → d < n) → (d : ℕ) → Among d (union causes more) → d < n
-union_below n causes [] low all d is = low d is
-union_below n causes (c ∷ more) low all d is = union_below n (with_cause causes c) more (with_below n causes c low (all c (inl refl))) (λ e there. all e (inr there)) d is
+without_fine n causes c fine = record { below = λ d is. fine.below d (Among-kept (λ other. not (other == c)) causes d is); apart = apart_kept (λ other. not (other == c)) causes fine.apart }
 
 pub union_fine : (n : ℕ) (causes more : List ℕ) → AreFine n causes → ((c : ℕ) → Among c more → c < n) → AreFine n (union causes more)
-union_fine n causes more fine low = record { below = union_below n causes more fine.below low; apart = union_apart causes more fine.apart }
+union_fine n causes more fine low = record { below = all_below n (union causes more) (union_all (λ d. nat_lt d n) causes more (below_all n causes fine.below) (below_all n more low)); apart = union_apart causes more fine.apart }
 
 -- ---- plays
 
@@ -115,17 +82,12 @@ module _ (w : Parts) (all : IsSound w) where
     pub causes : AreFine (length w.causes) p.causes
 
   exceptions_fine : (value : List ℕ) (causes : List ℕ) (sent : Sent) → Among sent (exceptions (exception_port w) value causes) → IsSentFine sent
-  exceptions_fine value [] sent is = absurd is
-  exceptions_fine value (c ∷ causes) sent is = of (Among-either sent (option_to_list (option_map (λ port. record { port = port; value = value; causes = [] }) (exception_port w c))) (exceptions (exception_port w) value causes) is) (exceptions_fine value causes sent)
+  exceptions_fine value causes sent is = let it = spread_some _ causes sent is in one it.0 (exception_port w it.0) refl it.2
     where
-      one : (o : Option ℕ) → exception_port w c ≡ o → Among sent (option_to_list (option_map (λ port. record { port = port; value = value; causes = [] }) o)) → IsSentFine sent
-      one None at none = absurd none
-      one (Some port) at (inl e) = subst IsSentFine (sym e) (record { port = all.exception_ports c port at; causes = none_fine (length w.causes) })
-      one (Some port) at (inr none) = absurd none
-
-      of : Among sent (option_to_list (option_map (λ port. record { port = port; value = value; causes = [] }) (exception_port w c))) ⊎ Among sent (exceptions (exception_port w) value causes) → (Among sent (exceptions (exception_port w) value causes) → IsSentFine sent) → IsSentFine sent
-      of (inl here) rest = one (exception_port w c) refl here
-      of (inr later) rest = rest later
+      one : (c : ℕ) (o : Option ℕ) → exception_port w c ≡ o → Among sent (option_to_list (option_map (λ port. record { port = port; value = value; causes = [] }) o)) → IsSentFine sent
+      one c None at none = absurd none
+      one c (Some port) at (inl e) = subst IsSentFine (sym e) (record { port = all.exception_ports c port at; causes = none_fine (length w.causes) })
+      one c (Some port) at (inr none) = absurd none
 
   pub play_fine : (values : List (List ℕ)) (site : ℕ) (causes : List ℕ) (acts : List Action) → ((a : Action) → Among a acts → IsActionNamed w a) → AreFine (length w.causes) causes → IsPlayFine (play (exception_port w) values site causes acts)
   play_fine values site causes [] named fine = record { posts = λ sent is. absurd is; causes = fine }
@@ -171,12 +133,7 @@ module _ (w : Parts) (all : IsSound w) where
   ArePosted h = (m : Msg) → Among m (posts h) → (m.port < length w.ports) × AreFine (length w.causes) m.causes
 
   pub causes_below : (ms : List Msg) → ((m : Msg) → Among m ms → AreFine (length w.causes) m.causes) → (c : ℕ) → Among c (flat_map (λ (m : Msg). m.causes) ms) → c < length w.causes
-  causes_below [] fine c is = absurd is
-  causes_below (m ∷ ms) fine c is = of (Among-either c m.causes (flat_map (λ (x : Msg). x.causes) ms) is) (causes_below ms (λ x there. fine x (inr there)) c)
-    where
-      of : Among c m.causes ⊎ Among c (flat_map (λ (x : Msg). x.causes) ms) → (Among c (flat_map (λ (x : Msg). x.causes) ms) → c < length w.causes) → c < length w.causes
-      of (inl here) rest = (fine m (inl refl)).below c here
-      of (inr later) rest = rest later
+  causes_below ms fine c is = let it = spread_some (λ (m : Msg). m.causes) ms c is in (fine it.0 it.1).below c it.2
 
   more_fine : (h : List Event) (load : Load) (t : TaskId) → ArePosted h → AreFine (length w.causes) load.causes → AreFine (length w.causes) (with_messages load (messages_of h t)).causes
   more_fine h load t known fine = union_fine (length w.causes) load.causes (flat_map (λ (m : Msg). m.causes) (messages_of h t)) fine (causes_below (messages_of h t) (λ m is. (known m (took_among h t m is)).1))
@@ -205,40 +162,13 @@ module _ (w : Parts) (all : IsSound w) where
 
   -- ---- posts
 
-  sent_as : (m : Msg) (sent : Sent) → is_post m sent ≡ true → IsSentFine sent → (m.port < length w.ports) × AreFine (length w.causes) m.causes
-  sent_as m sent is fine =
-      let two = both ((m.port == sent.port) && same_value m.value sent.value) (same_lists (λ c d. c == d) m.causes sent.causes) is in
-      let one = both (m.port == sent.port) (same_value m.value sent.value) two.0 in
-      (subst (λ p. p < length w.ports) (sym (same_number m.port sent.port one.0)) fine.port, subst (AreFine (length w.causes)) (sym (same_numbers-is m.causes sent.causes two.1)) fine.causes)
+  sent_as : (m : Msg) (sent : Sent) → IsPost m sent → IsSentFine sent → (m.port < length w.ports) × AreFine (length w.causes) m.causes
+  sent_as m sent post fine = (subst (λ p. p < length w.ports) (sym post.port) fine.port, subst (AreFine (length w.causes)) (sym post.causes) fine.causes)
 
   pub script_fine : (poster : ℕ) (part : PosterPart) (index : ℕ) (sent : Sent) → slice_get w.posters poster ≡ Some part → slice_get part.posts index ≡ Some sent → IsSentFine sent
   script_fine poster part index sent is line =
       let named = all.scripts poster index part sent is line in
       record { port = named.port; causes = record { below = λ c there. (let at = index_of sent.causes c there in named.causes at.0 c at.1); apart = named.apart } }
 
-  post_allowed : (h : List Event) (m : Msg) → ArePosted h → (name : MsgId) → refusal_of_post w h m name ≡ None → (m.port < length w.ports) × AreFine (length w.causes) m.causes
-  post_allowed h m known (names.Script a k) allowed =
-      let line = (refused_not (is_script_line w h a k m) _ None allowed).0 in
-      let found = some_of (is_post m) (option_and_then (λ (p : PosterPart). slice_get p.posts k) (slice_get w.posters a)) (both (k == posts_of_poster h a) _ line).1 in
-      let part = some_then (λ (p : PosterPart). slice_get p.posts k) (slice_get w.posters a) found.0 found.1 in
-      sent_as m found.0 found.2 (script_fine a part.0 k found.0 part.1 part.2)
-  post_allowed h m known (names.Task t k) allowed =
-      let line = (refused_not (is_play_post w h t k m) _ _ allowed).0 in
-      let found = some_of (is_post m) (slice_get (play_of w h t).posts k) (both (has_task (running h) t && (k == posts_of_task h t)) _ line).1 in
-      sent_as m found.0 found.2 ((play_of-fine h known t).posts found.0 (Among-at (play_of w h t).posts k found.0 found.1))
-
-  posted_kept : (h : List Event) (e : Event) → ArePosted h → IsAllowed w h e → ArePosted (h ++ e ∷ [])
-  posted_kept h e known allowed m is = of_either e allowed (Among-either m (posts h) (post_of e) (subst (Among m) (posts-push h e) is))
-    where
-      of_either : (e : Event) → IsAllowed w h e → Among m (posts h) ⊎ Among m (post_of e) → (m.port < length w.ports) × AreFine (length w.causes) m.causes
-      of_either e allowed (inl old) = known m old
-      of_either (events.Post x) allowed (inr (inl same)) = subst (λ (y : Msg). (y.port < length w.ports) × AreFine (length w.causes) y.causes) (sym same) (post_allowed h x known x.id allowed)
-      of_either (events.Post x) allowed (inr (inr none)) = absurd none
-      of_either (events.Fire t s ms cs) allowed (inr none) = absurd none
-      of_either (events.Admit t) allowed (inr none) = absurd none
-      of_either (events.Put t d) allowed (inr none) = absurd none
-      of_either (events.Start t a) allowed (inr none) = absurd none
-      of_either (events.End t how) allowed (inr none) = absurd none
-
   pub posted_fine : (h : List Event) → IsLegal w h → ArePosted h
-  posted_fine h legal = along w ArePosted posted_kept (λ m is. absurd is) h legal
+  posted_fine h legal = each_posted w (λ (m : Msg). (m.port < length w.ports) × AreFine (length w.causes) m.causes) (λ g m lawful known allowed. (let it = post_allowed w g m IsSentFine script_fine (λ t. (play_of-fine g known t).posts) m.id allowed in sent_as m it.0 it.1 it.2)) h legal

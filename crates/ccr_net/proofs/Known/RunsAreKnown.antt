@@ -70,9 +70,6 @@ module _ (w : Parts) (workers : ℕ) (lacks : Lacks) (valid : IsValid w) (few : 
       at x (inr (inl same)) = subst (λ (y : Entry). IsPlaceOf w y.place) (sym same) (subst (IsPlaceOf w) (sym step.there) named.place)
       at x (inr (inr none)) = absurd none
 
-      h : List Event
-      h = visible (es ++ e ∷ [])
-
       drops : DropReaches w (reply_of w es e)
       drops = drop_reaches w (visible (es ++ e ∷ [])) (notes_at es e.place) e.note dropped_at
         where

@@ -14,12 +14,12 @@ use Rattle.ccr_wiring.specs.declared.parts.Parts.{Parts}
 use Rattle.ccr_wiring.specs.Domains.{domain_of, least_with}
 use Rattle.ccr_wiring.specs.Repeats.{has_repeating_domain, members_in_all}
 use Rattle.ccr_wiring.specs.Valid.{IsSound, IsValid}
-use Rattle.ccr_wiring.specs.Wirings.{Placement, actions_of, awaited, branch_of, in_domain, placement, placements_from, site_port, queue_of_spot, domain_of_spot}
+use Rattle.ccr_wiring.specs.Wirings.{Placement, branch_of, in_domain, placement, placements_from, site_port, queue_of_spot, domain_of_spot}
 use Rattle.ccr_wiring.proofs.Lists.{neither}
 use Rattle.ccr_wiring.proofs.DomainsOfOwnKind.{least-low}
 use Rattle.ccr_wiring.proofs.Positions.{placement-domain}
 use Rattle.ccr_wiring.proofs.Validity.{no_codes}
-use Rattle.ccr_wiring.proofs.Apart.{apart-split}
+use Rattle.ccr_base.proofs.Apart.{apart-split}
 use Rattle.ccr_model.specs.declared.history.Event.{Event}
 use Rattle.ccr_model.specs.declared.history.Event.TheVariants as events
 use Rattle.ccr_model.specs.Selection.{are_oldest}
@@ -29,8 +29,9 @@ use Rattle.ccr_model.specs.Posts.{held}
 use Rattle.ccr_model.specs.TaskData.{placement_of}
 use Rattle.ccr_base.proofs.Booleans.{both, eq-self, same_number, or_right}
 use Rattle.ccr_model.proofs.FiredTasks.{IsFired}
+use Rattle.ccr_model.proofs.FiringPlacements.{site_placement}
 use Rattle.ccr_model.proofs.Members.{Among, Among-either, found_among}
-use Rattle.ccr_base.proofs.Options.{some-below, some_of}
+use Rattle.ccr_base.proofs.Options.{some-below, some_of, some_is}
 use Rattle.ccr_base.specs.Lists.{are_apart, has_number}
 use Rattle.ccr_base.proofs.Lists.{any_left, any_right}
 use Rattle.ccr_model.proofs.PlacementDomains.{placement-within}
@@ -131,13 +132,10 @@ domain_own w valid i is = of_placement (slice_get (placements_from 0 w.arbiters)
     apart : are_apart (members_in_all w.domains) ≡ true
     apart = of_not (are_apart (members_in_all w.domains)) (neither _ (has_repeating_domain w) (no_codes w valid).repeats).1
 
-    inside : (x y : Placement) → Some x ≡ Some y → x ≡ y
-    inside x y e = cc
-
     of_placement : (o : Option Placement) → option_map (in_domain w.domains) o ≡ Some is.1 → (domain_of w.domains i == i) ≡ true
     of_placement None at = absurd (cc)
     of_placement (Some r) at =
-        let number : domain_of w.domains r.domain ≡ i = ap (λ (s : Placement). s.domain) (inside (in_domain w.domains r) is.1 at) ∙ is.3 in
+        let number : domain_of w.domains r.domain ≡ i = ap (λ (s : Placement). s.domain) (some_is at) ∙ is.3 in
         ap (λ k. domain_of w.domains k == i) (sym number) ∙ ap (λ k. k == i) (domain-again w.domains r.domain apart ∙ number) ∙ eq-self i
 
 -- ---- spots
@@ -145,11 +143,7 @@ domain_own w valid i is = of_placement (slice_get (placements_from 0 w.arbiters)
 -- the branch of a spot
 pub seat_of : (w : Parts) (spot : Spot) → SpotFits w spot → (s : Placement) × (placement w (branch_of spot) ≡ Some s)
 seat_of w (Branch b) fits = fits
-seat_of w (Site b k) fits = of_option (placement w b) refl fits.1
-  where
-    of_option : (o : Option Placement) → placement w b ≡ o → option_map_or (λ (r : Placement). slice_get (awaited (actions_of w r.branch.handler)) k) o None ≡ Some fits.0 → (s : Placement) × (placement w b ≡ Some s)
-    of_option None at found = absurd (cc)
-    of_option (Some r) at found = (r, at)
+seat_of w (Site b k) fits = site_placement w b k fits.0 fits.1
 
 pub spot_known : (w : Parts) (spot : Spot) → SpotFits w spot → IsSpotOf w spot
 spot_known w (Branch b) fits = some-below _ b fits.0 fits.1

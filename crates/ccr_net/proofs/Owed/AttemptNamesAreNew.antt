@@ -15,6 +15,7 @@ use Rattle.ccr_handler.specs.declared.segments.PlayEnd.{PlayEnd}
 use Rattle.ccr_handler.specs.declared.segments.PlayEnd.TheVariants as plays
 use Rattle.ccr_wiring.specs.declared.parts.Parts.{Parts}
 use Rattle.ccr_base.proofs.Booleans.{same_number, eq-self, no_both, both, or_left, or_right, or_none}
+use Rattle.ccr_base.proofs.Options.{some_so}
 use Rattle.ccr_model.proofs.Members.{Among}
 use Rattle.ccr_base.proofs.SameNames.{same_task-is}
 use Rattle.ccr_base.proofs.Lists.{any_right}
@@ -176,10 +177,7 @@ is_book (asks.Book t r) = true
 is_book _ = false
 
 some_book : (y x : Asked) → Some y ≡ Some x → is_book y.ask ≡ false → is_book x.ask ≡ false
-some_book y x is none = ap (λ (z : Asked). is_book z.ask) (sym same) ∙ none
-  where
-    same : y ≡ x
-    same = cc
+some_book y x is none = some_so (λ (z : Asked). is_book z.ask ≡ false) is none
 
 work_books : (a : ℕ) (wk : Work) (x : Asked) → work_ask a wk ≡ Some x → is_book x.ask ≡ false
 work_books a (lines index []) x is = some_book _ x is refl

@@ -17,6 +17,7 @@ use Rattle.ccr_model.specs.declared.history.Event.{Event}
 use Rattle.ccr_model.specs.Tasks.{running_by}
 use Rattle.ccr_model.proofs.FiredTasks.{IsFired}
 use Rattle.ccr_base.proofs.Booleans.{eq-self}
+use Rattle.ccr_base.proofs.Options.{some_so}
 use Rattle.ccr_places.specs.declared.notes.ClaimNote.TheVariants.{Got}
 use Rattle.ccr_places.specs.declared.notes.Note.TheVariants as notes
 use Rattle.ccr_places.specs.Ports.{first_fitting}
@@ -99,15 +100,19 @@ pub owing_next : (w : Parts) (a : ℕ) (st new next : State) → (new ≡ next) 
 owing_next w a st new next (inl is) = ap (owing w a) is
 owing_next w a st new next (inr is) = ap (owing w a) is ∙ owing_short w a next
 
--- who goes on has no attempt under way
-pub idle_booking : (w : Parts) (st : State) → StateFits w st → turn st ≡ go_on → st.phase ≡ booking
-idle_booking w st fits turns = by st.phase refl st.spots refl (nat_lt st.attempt (2 ^ 32)) refl fits.phase_so (none_go_on st.is_short st.hand st.domains (spots_left st) turns).1
+-- who drives nothing has no attempt under way
+pub driven : (w : Parts) (st : State) → StateFits w st → spots_left st ≡ [] → st.phase ≡ booking
+driven w st fits none = by st.phase refl st.spots refl (nat_lt st.attempt (2 ^ 32)) refl fits.phase_so none
   where
     by : (ph : Phase) → st.phase ≡ ph → (spots : List Spot) → st.spots ≡ spots → (b : Bool) → nat_lt st.attempt (2 ^ 32) ≡ b → PhaseFits w st.attempt st.phase st.spots → spots_left st ≡ [] → st.phase ≡ booking
-    by booking phase spots at b left fit none = phase
-    by (claiming slots had) phase [] at b left fit none = absurd (rw (phase, at) at fit)
-    by (claiming slots had) phase (s ∷ spots) at true left fit none = absurd (let some : s ∷ spots ≡ [] = (rw (left, at) at none) in cc)
-    by (claiming slots had) phase (s ∷ spots) at false left fit none = absurd (let low : nat_lt st.attempt (2 ^ 32) ≡ true = (rw (phase, at) at fit).0 in cc)
+    by booking phase spots at b left fit gone = phase
+    by (claiming slots had) phase [] at b left fit gone = absurd (rw (phase, at) at fit)
+    by (claiming slots had) phase (s ∷ spots) at true left fit gone = absurd (let some : s ∷ spots ≡ [] = (rw (left, at) at gone) in cc)
+    by (claiming slots had) phase (s ∷ spots) at false left fit gone = absurd (let low : nat_lt st.attempt (2 ^ 32) ≡ true = (rw (phase, at) at fit).0 in cc)
+
+-- nor has who goes on
+pub idle_booking : (w : Parts) (st : State) → StateFits w st → turn st ≡ go_on → st.phase ≡ booking
+idle_booking w st fits turns = driven w st fits (none_go_on st.is_short st.hand st.domains (spots_left st) turns).1
 
 -- ---- asks of work
 
@@ -119,10 +124,7 @@ abbrev pub WorkAsks : Parts → List Event → ℕ → Asked → Type 0
 WorkAsks w h a x = (is_quiet x.ask ≡ true) ⊎ ((task : Task) × (how : How) × (x ≡ at_place (places.Arbiter task.arbiter) (asks.Over task.id task.root how)) × (is_run_end how ≡ true) × Runs w h a task)
 
 some_ask : (w : Parts) (h : List Event) (a : ℕ) (y x : Asked) → Some y ≡ Some x → WorkAsks w h a y → WorkAsks w h a x
-some_ask w h a y x is asks = subst (WorkAsks w h a) (inside is) asks
-  where
-    inside : Some y ≡ Some x → y ≡ x
-    inside now = cc
+some_ask w h a y x is asks = some_so (WorkAsks w h a) is asks
 
 pub work_asks : (w : Parts) (h : List Event) (a : ℕ) (wk : Work) (x : Asked) → WorkMatches w h a wk → work_ask a wk ≡ Some x → WorkAsks w h a x
 work_asks w h a (lines index []) x match is = some_ask w h a _ x is (inl refl)

@@ -24,7 +24,7 @@ use Rattle.ccr_model.specs.Sites.{root_of}
 use Rattle.ccr_model.specs.Tasks.{is_over}
 use Rattle.ccr_model.proofs.ExclusiveRootsAreAlone.{over_stays, lasts_fired}
 use Rattle.ccr_base.proofs.Booleans.{no_both, or_left}
-use Rattle.ccr_base.proofs.Options.{no_some}
+use Rattle.ccr_base.proofs.Options.{no_some, some_so}
 use Rattle.ccr_model.proofs.FiredTasks.{root_stays}
 use Rattle.ccr_model.proofs.Members.{Among}
 use Rattle.ccr_base.proofs.SameNames.{same_task-self}
@@ -93,10 +93,7 @@ of_given : (b : Bool) (m note : Note) → noted_over m ≡ [] → given b m ≡ 
 of_given b m note none is = ap noted_over ((given_some b m note is).1) ∙ none
 
 of_some : (m note : Note) → noted_over m ≡ [] → Some m ≡ Some note → noted_over note ≡ []
-of_some m note none is = ap noted_over same ∙ none
-  where
-    same : note ≡ m
-    same = cc
+of_some m note none is = some_so (λ n. noted_over n ≡ []) is none
 
 of_commit : (task : Task) (ms : List MsgId) (note : Note) → IsCommitNote task.id task.spot ms note → noted_over note ≡ []
 of_commit task ms note (inl found) = ap noted_over found.1

@@ -28,7 +28,7 @@ use Rattle.ccr_model.specs.Rules.{is_concurrent_task}
 use Rattle.ccr_model.specs.Sites.{root_of}
 use Rattle.ccr_model.specs.TaskData.{placement_of}
 use Rattle.ccr_model.specs.Tasks.{queued, is_interleave, is_over, is_branch_where}
-use Rattle.ccr_base.proofs.Booleans.{same_number, eq-self, no_both, both, or_left, or_right, refuted, not_true, and_false}
+use Rattle.ccr_base.proofs.Booleans.{same_number, eq-self, no_both, both, or_left, or_right, or_before, or_between, refuted, not_true, and_false}
 use Rattle.ccr_model.proofs.AllowedDrops.{DropFacts, drop_allowed}
 use Rattle.ccr_model.proofs.FiredTasks.{IsFired, placement_stays, root_stays}
 use Rattle.ccr_model.proofs.AllowedFirings.{fired_by_has}
@@ -162,17 +162,8 @@ with_root : (place : InterleaveState) (x : Waiting) (r : TaskId) → interleaves
 with_root place x r is = by (interleaves.is_concurrent (interleaves.group_at place x.spot))
   where
     by : (b : Bool) → (set.contains (if b then set.insert place.shared x.task else place.shared) r || set.contains (if b then place.alone else set.insert place.alone x.task) r) ≡ true
-    by true = rw (in-more place.shared x.task r) (more (same_task r x.task) (set.contains place.shared r) (set.contains place.alone r) is)
-      where
-        more : (a b c : Bool) → b || c ≡ true → (a || b) || c ≡ true
-        more true b c now = refl
-        more false b c now = now
-    by false = rw (in-more place.alone x.task r) (more (same_task r x.task) (set.contains place.shared r) (set.contains place.alone r) is)
-      where
-        more : (a b c : Bool) → b || c ≡ true → b || (a || c) ≡ true
-        more a true c now = refl
-        more true false c now = refl
-        more false false c now = now
+    by true = rw (in-more place.shared x.task r) (or_before (same_task r x.task) (set.contains place.shared r) (set.contains place.alone r) is)
+    by false = rw (in-more place.alone x.task r) (or_between (same_task r x.task) (set.contains place.shared r) (set.contains place.alone r) is)
 
 admission : (place : InterleaveState) (o : Option TaskId) (r : TaskId) → interleaves.is_admitted place r ≡ true → interleaves.is_admitted (interleaves.after_admit place o) r ≡ true
 admission place None r is = is

@@ -1,5 +1,5 @@
 -- Each ask that an actor owes is at a place of its kind, and each number of its admissions is an Interleave's.
-use Rattle.std.proofs.Common.{inl, inr, ◌⊎◌, ◌≡◌, ℕ, ◌+◌, Bool, true, false, List, [], ◌∷◌, ◌++◌, map, Option, Some, None, refl, sym, ap, ◌∙◌, subst}
+use Rattle.std.proofs.Common.{inl, inr, ◌≡◌, ℕ, ◌+◌, Bool, true, false, List, [], ◌∷◌, ◌++◌, map, Option, Some, None, refl, sym, ap, ◌∙◌, subst}
 use Rattle.std.specs.Prelude.{◌==◌, if◌then◌else◌, nat_lt, IsSomeAnd}
 use Rattle.std.specs.List.{slice_get}
 use Rattle.std.specs.Option.{option_map_or}
@@ -14,7 +14,7 @@ use Rattle.ccr_wiring.specs.Valid.{HasDomains}
 use Rattle.ccr_wiring.specs.Wirings.{Placement, placement, domain_of_spot}
 use Rattle.ccr_model.specs.Tasks.{is_interleave}
 use Rattle.ccr_base.proofs.Booleans.{same_number, eq-self, differ}
-use Rattle.ccr_model.proofs.Members.{Among, Among-either}
+use Rattle.ccr_model.proofs.Members.{Among, both_among}
 use Rattle.ccr_claim.specs.declared.asks.Ask.{Ask}
 use Rattle.ccr_claim.specs.declared.asks.Ask.TheVariants as asks
 use Rattle.ccr_claim.specs.declared.asks.Asked.{Asked}
@@ -60,11 +60,7 @@ placed_map f each (y ∷ ys) x (inl e) = ap is_placed e ∙ each y
 placed_map f each (y ∷ ys) x (inr is) = placed_map f each ys x is
 
 placed_both : (xs ys : List Asked) → ArePlaced xs → ArePlaced ys → ArePlaced (xs ++ ys)
-placed_both xs ys front back x is = by (Among-either x xs ys is)
-  where
-    by : Among x xs ⊎ Among x ys → is_placed x ≡ true
-    by (inl there) = front x there
-    by (inr there) = back x there
+placed_both = both_among (λ (x : Asked). is_placed x ≡ true)
 
 placed_more : (y : Asked) (xs : List Asked) → is_placed y ≡ true → ArePlaced xs → ArePlaced (y ∷ xs)
 placed_more y xs here rest x (inl e) = ap is_placed e ∙ here

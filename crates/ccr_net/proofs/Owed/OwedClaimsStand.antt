@@ -12,6 +12,7 @@ use Rattle.ccr_base.specs.declared.tasks.Task.{Task}
 use Rattle.ccr_base.specs.Names.{same_task, has_task}
 use Rattle.ccr_wiring.specs.declared.parts.Parts.{Parts}
 use Rattle.ccr_base.proofs.Booleans.{same_number, eq-self, no_both, or_left, and_false}
+use Rattle.ccr_base.proofs.Options.{some_is}
 use Rattle.ccr_base.proofs.SameNames.{same_task-is, same_task-self}
 use Rattle.ccr_places.specs.declared.claims.StandingClaim.{StandingClaim}
 use Rattle.ccr_places.specs.declared.notes.ClaimNote.TheVariants.{Got}
@@ -106,17 +107,11 @@ claim_kept port (asks.Claim u s) note t is stands = inl (rw (noted, found.1) (rw
 claim_kept port (asks.Consume u) note t is stands = inr (both_claim port.claim (given_some _ (notes.Consume u) note is).0 stands)
   where
     both_claim : (o : Option StandingClaim) → option_map_or (λ (c : StandingClaim). same_task u c.task) o false ≡ true → option_map_or (λ (c : StandingClaim). same_task t c.task) o false ≡ true → has_task (u ∷ []) t ≡ true
-    both_claim o one two = let a = claims_still o u one in let b = claims_still o t two in let c : a.0 ≡ b.0 = inside (sym a.1 ∙ b.1) in subst (λ x. has_task (x ∷ []) t ≡ true) (b.2 ∙ ap (λ (k : StandingClaim). k.task) (sym c) ∙ sym a.2) (or_left (same_task t t) false (same_task-self t))
-      where
-        inside : {x y : StandingClaim} → Some x ≡ Some y → x ≡ y
-        inside is = cc
+    both_claim o one two = let a = claims_still o u one in let b = claims_still o t two in let c : a.0 ≡ b.0 = some_is (sym a.1 ∙ b.1) in subst (λ x. has_task (x ∷ []) t ≡ true) (b.2 ∙ ap (λ (k : StandingClaim). k.task) (sym c) ∙ sym a.2) (or_left (same_task t t) false (same_task-self t))
 claim_kept port (asks.Free u) note t is stands = inr (both_claim port.claim (given_some _ (notes.Free u) note is).0 stands)
   where
     both_claim : (o : Option StandingClaim) → option_map_or (λ (c : StandingClaim). same_task u c.task) o false ≡ true → option_map_or (λ (c : StandingClaim). same_task t c.task) o false ≡ true → has_task (u ∷ []) t ≡ true
-    both_claim o one two = let a = claims_still o u one in let b = claims_still o t two in let c : a.0 ≡ b.0 = inside (sym a.1 ∙ b.1) in subst (λ x. has_task (x ∷ []) t ≡ true) (b.2 ∙ ap (λ (k : StandingClaim). k.task) (sym c) ∙ sym a.2) (or_left (same_task t t) false (same_task-self t))
-      where
-        inside : {x y : StandingClaim} → Some x ≡ Some y → x ≡ y
-        inside is = cc
+    both_claim o one two = let a = claims_still o u one in let b = claims_still o t two in let c : a.0 ≡ b.0 = some_is (sym a.1 ∙ b.1) in subst (λ x. has_task (x ∷ []) t ≡ true) (b.2 ∙ ap (λ (k : StandingClaim). k.task) (sym c) ∙ sym a.2) (or_left (same_task t t) false (same_task-self t))
 claim_kept port (asks.Commit u ms) note t is stands = absurd (cc)
 claim_kept port asks.Admit note t is stands = absurd (cc)
 claim_kept port (asks.Over u r how) note t is stands = absurd (cc)

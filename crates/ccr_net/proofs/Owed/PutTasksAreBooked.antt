@@ -23,7 +23,8 @@ use Rattle.ccr_model.specs.Rules.{needs_no_admission}
 use Rattle.ccr_model.specs.TaskData.{placement_of}
 use Rattle.ccr_model.specs.Tasks.{is_branch_where}
 use Rattle.ccr_model.proofs.Allowing.{OneName-legal}
-use Rattle.ccr_base.proofs.Booleans.{same_number, eq-self, no_both, both, or_left, or_right, not_true, and_false}
+use Rattle.ccr_base.proofs.Booleans.{same_number, eq-self, no_both, both, or_left, or_right, or_before, or_between, not_true, and_false}
+use Rattle.ccr_base.proofs.Options.{some_is}
 use Rattle.ccr_model.proofs.Cutting.{AdmitFacts, AdmitFacts-allowed, CutFacts-legal, waits_unput, cut_by}
 use Rattle.ccr_model.proofs.FiredTasks.{fired_has}
 use Rattle.ccr_model.proofs.AllowedFirings.{FiresSo-allowed, BranchFacts, BranchFacts-where, WaitingFacts, WaitingFacts-waiting, waits_outside, fired_by_has, firing_named-new}
@@ -38,6 +39,7 @@ use Rattle.ccr_places.specs.Queues as queues
 use Rattle.ccr_claim.specs.declared.asks.Ask.{Ask}
 use Rattle.ccr_claim.specs.declared.asks.Ask.TheVariants as asks
 use Rattle.ccr_claim.specs.declared.asks.Asked.{Asked}
+use Rattle.ccr_claim.specs.declared.plan.Had.{Had}
 use Rattle.ccr_claim.specs.Plans.{in_pattern, names_of, resumes, commit_place}
 use Rattle.ccr_claim.specs.Attempts.{at_place, attempt_ask, booking, claiming, free_ask, consume_ask, unbook_ask, cut_ask, put_asks}
 use Rattle.ccr_actor.specs.Plans.{plan_of}
@@ -101,17 +103,8 @@ BookingsStand w lacks es = owed.OwedOnce places.Queue unbooks w lacks (is_booked
 booked_more : (queue : QueueState) (u t : TaskId) (r : Bool) (o : Option ℕ) → queues.is_booked queue t ≡ true → queues.is_booked (queues.after_book queue u r o) t ≡ true
 booked_more queue u t true (Some n) is = is
 booked_more queue u t false (Some n) is = is
-booked_more queue u t false None is = rw (in-more queue.fresh u t) (more (same_task t u) (set.contains queue.fresh t) (set.contains queue.resuming t) is)
-  where
-    more : (a b c : Bool) → b || c ≡ true → (a || b) || c ≡ true
-    more true b c now = refl
-    more false b c now = now
-booked_more queue u t true None is = rw (in-more queue.resuming u t) (more (same_task t u) (set.contains queue.fresh t) (set.contains queue.resuming t) is)
-  where
-    more : (a b c : Bool) → b || c ≡ true → b || (a || c) ≡ true
-    more a true c now = refl
-    more true false c now = refl
-    more false false c now = now
+booked_more queue u t false None is = rw (in-more queue.fresh u t) (or_before (same_task t u) (set.contains queue.fresh t) (set.contains queue.resuming t) is)
+booked_more queue u t true None is = rw (in-more queue.resuming u t) (or_between (same_task t u) (set.contains queue.fresh t) (set.contains queue.resuming t) is)
 
 booked_less : (queue : QueueState) (u t : TaskId) → queues.is_booked queue t ≡ true → (set.contains (set.remove queue.fresh u) t || set.contains (set.remove queue.resuming u) t ≡ true) ⊎ (has_task (u ∷ []) t ≡ true)
 booked_less queue u t is = by (same_task t u) refl
@@ -155,7 +148,7 @@ module _ (w : Parts) (n : ℕ) (lacks : Lacks) (es : List Entry) (holds : Holds 
   h = visible es
 
   -- who waits is booked at its queue
-  waiting_booked : (i : ℕ) (t : TaskId) → WaitingFacts w h i t → is_booked_at w es (queue_of w h t) t ≡ true
+  pub waiting_booked : (i : ℕ) (t : TaskId) → WaitingFacts w h i t → is_booked_at w es (queue_of w h t) t ≡ true
   waiting_booked i t facts = ap (λ q. is_booked_at w es q t) queue_so ∙ or_left (set.contains (queue_at w es branch.placement.branch.queue).fresh t) (set.contains (queue_at w es branch.placement.branch.queue).resuming t) (holds.queues.booked.fired_booked branch.placement.branch.queue t there (waits_unput w h i t (CutFacts-legal w h holds.legal) facts) facts.not_cut)
     where
       branch : BranchFacts w (is_placement_in i) facts.firing.spot
@@ -183,11 +176,8 @@ module _ (w : Parts) (n : ℕ) (lacks : Lacks) (es : List Entry) (holds : Holds 
       of_test true e (inr gone) = absurd (no_both gone (subst (λ x. has_task (cut h) x ≡ false) (of_one u t e) facts.not_cut))
   unowed i t facts a bound place (asks.Put task) is = of_test (has_task (task.id ∷ []) t) refl
     where
-      inside : (f g : Firing) → Some f ≡ Some g → f ≡ g
-      inside f g now = cc
-
       waited : IsToPut w h t → ⊥
-      waited now = no_both (subst (λ (f : Firing). needs_no_admission w f.spot || has_task (ever_admitted h) t ≡ true) (inside now.fires.0 facts.firing (sym now.fires.1 ∙ facts.is_firing)) now.entered) (waits_outside w h i t facts)
+      waited now = no_both (subst (λ (f : Firing). needs_no_admission w f.spot || has_task (ever_admitted h) t ≡ true) (some_is (sym now.fires.1 ∙ facts.is_firing)) now.entered) (waits_outside w h i t facts)
 
       of_test : (b : Bool) → has_task (task.id ∷ []) t ≡ b → has_task (task.id ∷ []) t ≡ false
       of_test false e = e
@@ -211,6 +201,21 @@ module _ (w : Parts) (n : ℕ) (lacks : Lacks) (es : List Entry) (holds : Holds 
     where
       of_owed : (x : Asked) → (bound : ℕ) × IsOwed w h a bound x.place x.ask → is_about q t x ≡ false
       of_owed x is = rw (unowed i t facts a is.0 x.place x.ask is.1) (and_false (same_place x.place (places.Queue q)))
+
+-- after a firing, only the cut tasks and the task to put are about bookings
+pub fired_many : (name : TaskId) (had : List Had) (cuts : List Cut) (task : Option Task) (q : ℕ) (t : TaskId) → many q t (map (consume_ask name) had ++ (map cut_ask cuts ++ put_asks task)) ≡ many q t (map cut_ask cuts) + many q t (put_asks task)
+fired_many name had cuts task q t =
+    let all = owed.many-append places.Queue unbooks q t (map (consume_ask name) had) (map cut_ask cuts ++ put_asks task) in
+    let behind = owed.many-append places.Queue unbooks q t (map cut_ask cuts) (put_asks task) in
+    let none = owed.many-none places.Queue unbooks q t (consume_ask name) (λ d. refl) had in
+    omega (arith, all, behind, none)
+
+-- before it, only the booking of its own name
+pub held_many : (name : TaskId) (had : List Had) (own q : ℕ) (t : TaskId) → many q t (map (free_ask name) (reverse had) ++ unbook_ask own name ∷ []) ≡ bit ((own == q) && (same_task t name || false))
+held_many name had own q t =
+    let all = owed.many-append places.Queue unbooks q t (map (free_ask name) (reverse had)) (unbook_ask own name ∷ []) in
+    let none = owed.many-none places.Queue unbooks q t (free_ask name) (λ d. refl) (reverse had) in
+    omega (arith, all, none)
 
 -- how many of the bookings of the cut tasks are about a task
 cuts_many : (w : Parts) (g : List Event) (q : ℕ) (t : TaskId) (cs : List TaskId) → are_distinct_tasks cs ≡ true → (many q t (map cut_ask (map (cut_view w g) cs)) ≡ 0) ⊎ ((many q t (map cut_ask (map (cut_view w g) cs)) ≡ 1) × (has_task cs t ≡ true) × (queue_of w g t ≡ q))
@@ -420,17 +425,10 @@ module _ (w : Parts) (n : ℕ) (lacks : Lacks) (es : List Entry) (e : Entry) (st
       queue_so = ap (λ g. queue_of w g name) shows ∙ ap (λ o. option_map_or (λ (s : Placement). s.branch.queue) o 0) (placement_by w (visible es ++ event ∷ []) name _ (firing_named-new (visible es) name spot _ cs fresh))
 
       counted : (q : ℕ) (t : TaskId) → many q t new ≡ many q t (map cut_ask cuts) + many q t (put_asks task)
-      counted q t =
-          let now = ap (many q t) is ∙ owed.many-append places.Queue unbooks q t (map (consume_ask name) had) (map cut_ask cuts ++ put_asks task) in
-          let behind = owed.many-append places.Queue unbooks q t (map cut_ask cuts) (put_asks task) in
-          let none = owed.many-none places.Queue unbooks q t (consume_ask name) (λ d. refl) had in
-          omega (arith, now, behind, none)
+      counted q t = ap (many q t) is ∙ fired_many name had cuts task q t
 
       counted_old : (q : ℕ) (t : TaskId) → many q t old ≡ bit (((plan_of w spot).queue == q) && (same_task t name || false))
-      counted_old q t =
-          let before = ap (many q t) was ∙ owed.many-append places.Queue unbooks q t (map (free_ask name) (reverse had)) (unbook_ask (plan_of w spot).queue name ∷ []) in
-          let none = owed.many-none places.Queue unbooks q t (free_ask name) (λ d. refl) (reverse had) in
-          omega (arith, before, none)
+      counted_old q t = ap (many q t) was ∙ held_many name had (plan_of w spot).queue q t
 
       puts : (c : Bool) (q : ℕ) (t : TaskId) → many q t (put_asks (if c then None else Some (view w after name))) ≤ bit (((plan_of w spot).queue == q) && (same_task t name || false))
       puts true q t = omega arith

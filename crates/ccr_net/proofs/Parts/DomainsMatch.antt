@@ -29,13 +29,15 @@ use Rattle.ccr_model.specs.TaskData.{placement_of}
 use Rattle.ccr_model.specs.Tasks.{is_interleave, is_teardown, is_concurrent, is_branch_where, fired_by, waiting, admitted, is_over, is_of_domain}
 use Rattle.ccr_model.proofs.Allowing.{OneName-legal}
 use Rattle.ccr_base.proofs.Booleans.{both, refuted, no_both, same_number, eq-self, and_false}
+use Rattle.ccr_base.proofs.Options.{some_is}
 use Rattle.ccr_model.proofs.FiredTasks.{IsFired, placement_stays}
 use Rattle.ccr_model.proofs.AllowedFirings.{firing_named-new, FiresSo-allowed, BranchFacts-where, WaitingFacts, WaitingFacts-waiting}
-use Rattle.ccr_model.proofs.Members.{Among, Among-either, all_from, index_of}
+use Rattle.ccr_model.proofs.Members.{Among, Among-either, all_from}
 use Rattle.ccr_model.proofs.OneMoreEvent.{ever_admitted-push}
 use Rattle.ccr_model.proofs.Roots.{AdmittedFacts-admitted}
 use Rattle.ccr_base.proofs.SameNames.{same_task-is, same_task-self}
-use Rattle.ccr_model.proofs.TaskLists.{without_other, without_first, of_more, of_one, has_oldest, none_gone, all_gone, no_members, has_at}
+use Rattle.ccr_model.proofs.TaskLists.{without_other, without_first, of_more, of_one, has_oldest, none_gone, all_gone, no_members}
+use Rattle.ccr_model.proofs.TasksLeft.{has_among}
 use Rattle.ccr_model.proofs.WhoWasPut.{placement_by}
 use Rattle.ccr_model.proofs.TasksOnce.{waiting_once, waits_in_one, waiting_apart}
 use Rattle.ccr_model.specs.Consequences.{are_distinct_tasks}
@@ -255,7 +257,7 @@ oldest w h i place x others legal list match =
     let waits_so : waiting w h i ≡ x.task ∷ map waiting_task others = sym match.waiting_so ∙ ap (map waiting_task) list in
     let known = WaitingFacts-waiting w h i x.task (OneName-legal w h legal) (has_oldest (waiting w h i) (map waiting_task others) x.task waits_so) in
     let at_branch = BranchFacts-where w (is_placement_in i) known.firing.spot known.is_branch in
-    let spot : x.spot ≡ known.firing.spot = inside x.spot known.firing.spot (sym (match.spots_so x (rw list (inl refl))) ∙ ap (option_map (λ (f : Firing). f.spot)) known.is_firing) in
+    let spot : x.spot ≡ known.firing.spot = some_is (sym (match.spots_so x (rw list (inl refl))) ∙ ap (option_map (λ (f : Firing). f.spot)) known.is_firing) in
     record {
       first = x;
       others = others;
@@ -270,12 +272,9 @@ oldest w h i place x others legal list match =
       at_i = same_number at_branch.placement.domain i (both (is_interleave at_branch.placement.kind) (at_branch.placement.domain == i) at_branch.passes).1;
       waits = waits_so;
     }
-  where
-    inside : (r q : Spot) → Some r ≡ Some q → r ≡ q
-    inside r q is = cc
 
 all_pass : (p : TaskId → Bool) (ts : List TaskId) → ((u : TaskId) → has_task ts u ≡ true → p u ≡ true) → list_all p ts ≡ true
-all_pass p ts all = all_from p ts (λ u is. let at = index_of ts u is in all u (has_at ts at.0 u at.1))
+all_pass p ts all = all_from p ts (λ u is. all u (has_among ts u is))
 
 nobody : (ts : List TaskId) → ((u : TaskId) → has_task ts u ≡ true → ⊥) → is_none_of ts ≡ true
 nobody ts none = ap is_none_of (no_members ts none)

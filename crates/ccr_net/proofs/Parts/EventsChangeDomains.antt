@@ -1,9 +1,8 @@
 -- Who waits in a domain of Interleaves after one more event, and who of its roots is left.
-use Rattle.std.proofs.Common.{◌≡◌, ℕ, Bool, true, false, ◌||◌, List, [], ◌∷◌, ◌++◌, flat_map, Some, refl, sym, arith, ap, ◌∙◌, subst, append-nil, append_assoc}
+use Rattle.std.proofs.Common.{◌≡◌, ℕ, Bool, true, false, ◌||◌, List, [], ◌∷◌, ◌++◌, flat_map, Some, refl, sym, ap, ◌∙◌, subst, append-nil, append_assoc}
 use Rattle.std.specs.Prelude.{◌==◌, if◌then◌else◌}
 use Rattle.std.specs.List.{list_any}
 use Rattle.std.specs.Option.{option_map_or, option_or}
-use Rattle.std.proofs.lemmas.Grind.{common_steps}
 use Rattle.ccr_base.specs.declared.names.MsgId.{MsgId}
 use Rattle.ccr_base.specs.declared.names.Spot.{Spot}
 use Rattle.ccr_base.specs.declared.names.TaskId.{TaskId}
@@ -21,6 +20,7 @@ use Rattle.ccr_model.specs.Tasks.{is_branch_where, fired_by, waiting, admitted, 
 use Rattle.ccr_model.proofs.Allowing.{OneName-legal}
 use Rattle.ccr_model.proofs.ExclusiveRootsAreAlone.{over_stays, lasts_fired, ever_admitted_fired}
 use Rattle.ccr_base.proofs.Booleans.{refuted, no_both, or_left, or_right}
+use Rattle.ccr_base.proofs.Lists.{any_right}
 use Rattle.ccr_model.proofs.Cutting.{cut_by, cut_fired, fired_by-fire, fired_by-same}
 use Rattle.ccr_model.proofs.FiredTasks.{IsFired, fired_has, placement_stays}
 use Rattle.ccr_model.proofs.AllowedFirings.{FiresSo-allowed}
@@ -94,7 +94,7 @@ concurrent_stays w h e t legal entered = rw (placement_stays w h (e ∷ []) t (e
 
 -- the last segment of a root: it is over then
 pub over_now : (h : List Event) (e : Event) (t : TaskId) → has_task (last_by e) t ≡ true → is_over (h ++ e ∷ []) (root_of (h ++ e ∷ []) t) ≡ true
-over_now h e t is = rw last-push (any_behind (λ u. same_task (root_of (h ++ e ∷ []) u) (root_of (h ++ e ∷ []) t)) (last_segments h) (last_by e) (any_here (last_by e) is))
+over_now h e t is = rw last-push (any_right (λ u. same_task (root_of (h ++ e ∷ []) u) (root_of (h ++ e ∷ []) t)) (last_segments h) (last_by e) (any_here (last_by e) is))
   where
     any_here : (ts : List TaskId) → has_task ts t ≡ true → list_any (λ u. same_task (root_of (h ++ e ∷ []) u) (root_of (h ++ e ∷ []) t)) ts ≡ true
     any_here [] now = absurd (cc)
@@ -103,7 +103,3 @@ over_now h e t is = rw last-push (any_behind (λ u. same_task (root_of (h ++ e �
         of_test : (b : Bool) → same_task t u ≡ b → b || has_task ts t ≡ true → (has_task ts t ≡ true → list_any (λ v. same_task (root_of (h ++ e ∷ []) v) (root_of (h ++ e ∷ []) t)) ts ≡ true) → list_any (λ v. same_task (root_of (h ++ e ∷ []) v) (root_of (h ++ e ∷ []) t)) (u ∷ ts) ≡ true
         of_test true same at rest = or_left _ _ (ap (λ v. same_task (root_of (h ++ e ∷ []) v) (root_of (h ++ e ∷ []) t)) (sym (same_task-is t u same)) ∙ same_task-self (root_of (h ++ e ∷ []) t))
         of_test false same at rest = or_right _ _ (rest at)
-
-    any_behind : (p : TaskId → Bool) (ts us : List TaskId) → list_any p us ≡ true → list_any p (ts ++ us) ≡ true
-    any_behind p [] us now = now
-    any_behind p (x ∷ ts) us now = or_right (p x) (list_any p (ts ++ us)) (any_behind p ts us now)

@@ -14,9 +14,9 @@ use Rattle.ccr_model.specs.Posts.{posts, held}
 use Rattle.ccr_model.specs.Firings.{fired}
 use Rattle.ccr_model.specs.Selection.{selection_of_slots}
 use Rattle.ccr_base.proofs.Booleans.{same_number, eq-self, or_left, or_right, either}
-use Rattle.ccr_model.proofs.Members.{Among, found_among, find_passes}
+use Rattle.ccr_model.proofs.Members.{Among, found_among, found_some, find_passes}
+use Rattle.ccr_base.proofs.Options.{some_is, some_so}
 use Rattle.ccr_model.proofs.PostNames.{AreNamed}
-use Rattle.ccr_model.proofs.QuietAllowsNone.{find_among}
 use Rattle.ccr_base.proofs.SameNames.{same_task-is}
 use Rattle.ccr_places.specs.declared.claims.StandingClaim.{StandingClaim}
 use Rattle.ccr_places.specs.Ports.{PortState, first_fitting}
@@ -33,13 +33,6 @@ use Rattle.ccr_net.proofs.Parts.NamesStandAtOnePort.{held_apart, held_posted}
 
 pub found_member : {X : Type 0} (t : X → Bool) (xs : List X) (x : X) → find t xs ≡ Some x → Among x xs × (t x ≡ true)
 found_member t xs x is = (found_among t xs x is, find_passes t xs x is)
-
-pub found_some : {X : Type 0} (t : X → Bool) (xs : List X) (x : X) → Among x xs → t x ≡ true → (y : X) × (find t xs ≡ Some y)
-found_some {X} t xs x is passes = by (find t xs) refl
-  where
-    by : (o : Option X) → find t xs ≡ o → (y : X) × (find t xs ≡ Some y)
-    by None e = absurd (find_among t xs x is passes e)
-    by (Some y) e = (y, e)
 
 -- sorting keeps the members
 insert_among : (slot other : Slot) (slots : List Slot) → Among other (insert_slot slot slots) → (other ≡ slot) ⊎ Among other slots
@@ -122,14 +115,11 @@ module _ (w : Parts) (h : List Event) (port : ℕ → PortState) (a : ℕ) (st :
   pub same_had : (d x : Had) → Among d (had_in st.phase) → Among x (had_in st.phase) → d.slot.port ≡ x.slot.port → d.messages ≡ x.messages
   same_had d x is also ports =
       let one : Some (claim_for (name_at a st) d) ≡ Some (claim_for (name_at a st) x) = sym (own.had_claimed d is) ∙ ap (λ p. (port p).claim) ports ∙ own.had_claimed x also in
-      let claims : claim_for (name_at a st) d ≡ claim_for (name_at a st) x = inside _ _ one in
+      let claims : claim_for (name_at a st) d ≡ claim_for (name_at a st) x = some_is one in
       sym (own.had_marked d is)
       ∙ ap (λ (c : StandingClaim). first_fitting c.count c.pred (port d.slot.port).items) claims
       ∙ ap (λ p. first_fitting (length x.messages) x.slot.pred (port p).items) ports
       ∙ own.had_marked x also
-    where
-      inside : (c e : StandingClaim) → Some c ≡ Some e → c ≡ e
-      inside c e is = cc
 
   pub had_at-is : (d : Had) → Among d (had_in st.phase) → had_at (had_in st.phase) d.slot.port ≡ d.messages
   had_at-is d is = of_found (found_some (λ (x : Had). x.slot.port == d.slot.port) (had_in st.phase) d is (eq-self d.slot.port))
@@ -194,10 +184,7 @@ module _ (w : Parts) (h : List Event) (port : ℕ → PortState) (a : ℕ) (st :
           of_test false out = inr (others, apart others)
             where
               others : (x : StandingClaim) → (port q).claim ≡ Some x → same_task x.task (name_at a st) ≡ false
-              others x is = let one : c ≡ x = inside c x (sym e ∙ is) in subst (λ (y : StandingClaim). same_task y.task (name_at a st) ≡ false) one out
-                where
-                  inside : (c x : StandingClaim) → Some c ≡ Some x → c ≡ x
-                  inside c x is = cc
+              others x is = some_so (λ (y : StandingClaim). same_task y.task (name_at a st) ≡ false) (sym e ∙ is) out
           of_test true same = of_had (own.claims_had q c e (same_task-is c.task (name_at a st) same))
             where
               of_had : (d : Had) × Among d (had_in st.phase) × (d.slot.port ≡ q) → IsTouched h port (name_at a st) (names_had ps) q
@@ -207,10 +194,7 @@ module _ (w : Parts) (h : List Event) (port : ℕ → PortState) (a : ℕ) (st :
                   d = found.0
 
                   claims : claim_for (name_at a st) d ≡ c
-                  claims = inside (claim_for (name_at a st) d) c (sym (own.had_claimed d found.1) ∙ ap (λ p. (port p).claim) found.2 ∙ e)
-                    where
-                      inside : (c x : StandingClaim) → Some c ≡ Some x → c ≡ x
-                      inside c x is = cc
+                  claims = some_is (sym (own.had_claimed d found.1) ∙ ap (λ p. (port p).claim) found.2 ∙ e)
 
                   marks : first_fitting c.count c.pred (port q).items ≡ d.messages
                   marks = ap (λ (y : StandingClaim). first_fitting y.count y.pred (port q).items) (sym claims) ∙ ap (λ p. first_fitting (length d.messages) d.slot.pred (port p).items) (sym found.2) ∙ own.had_marked d found.1

@@ -1,5 +1,5 @@
 -- One name stands at one port.
-use Rattle.std.proofs.Common.{◌⊎◌, inl, inr, ◌≡◌, ◌≤◌, ℕ, Bool, true, false, not, ◌&&◌, ◌||◌, List, [], ◌∷◌, filter, refl, sym, arith, ◌∙◌}
+use Rattle.std.proofs.Common.{◌⊎◌, inl, inr, ◌≡◌, ◌≤◌, ℕ, zero, suc, Bool, true, false, not, ◌&&◌, ◌||◌, List, [], ◌∷◌, filter, refl, sym, arith, ◌∙◌}
 use Rattle.std.specs.Prelude.{◌==◌, if◌then◌else◌}
 use Rattle.std.proofs.lemmas.Grind.{common_steps}
 use Rattle.std.proofs.lemmas.Bool.Decides.{nat_tests}
@@ -9,6 +9,7 @@ use Rattle.ccr_base.specs.Names.{same_message, has_message}
 use Rattle.ccr_model.specs.declared.history.Event.{Event}
 use Rattle.ccr_model.specs.Posts.{posts, held, posted, taken}
 use Rattle.ccr_model.proofs.PostNames.{times, AreNamed, place_of, sent_by}
+use Rattle.ccr_model.proofs.MessageNames.{not_named}
 use Rattle.ccr_base.proofs.SameNames.{same_message-sym}
 use Rattle.ccr_net.proofs.Parts.PostsKeepMarks.{has_name, has_name-filter}
 
@@ -78,17 +79,9 @@ pub held_posted : (h : List Event) (p : ℕ) (name : MsgId) → has_name (held h
 held_posted h p name is = has_name-filter (λ (m : Msg). m.port == p) (posts h) name (has_name-filter (λ (m : Msg). not (has_message (taken h) m.id)) (posted h p) name is)
 
 -- a post of the next name is new
-has_times : (ms : List Msg) (name : MsgId) → has_name ms name ≡ true → 1 ≤ times name ms
-has_times [] name is = absurd (cc)
-has_times (m ∷ ms) name is = of_test (same_message m.id name) refl (has_times ms name)
-  where
-    of_test : (b : Bool) → same_message m.id name ≡ b → (has_name ms name ≡ true → 1 ≤ times name ms) → 1 ≤ times name (m ∷ ms)
-    of_test true e rest = grind (arith, e)
-    of_test false e rest = let back : same_message name m.id ≡ false = same_message-sym name m.id ∙ e in let old : has_name ms name ≡ true = grind (arith, common_steps, back, is) in let low = rest old in grind (arith, e, low)
-
 pub post_fresh : (ms : List Msg) (name : MsgId) → AreNamed ms → place_of name ≡ sent_by name ms → has_name ms name ≡ false
-post_fresh ms name named next = of_test (has_name ms name) refl
+post_fresh ms name named next = by (times name ms) refl
   where
-    of_test : (b : Bool) → has_name ms name ≡ b → has_name ms name ≡ false
-    of_test false e = e
-    of_test true e = let low = has_times ms name e in let below = named.below name (omega (arith, low)) in absurd (omega (arith, below, next))
+    by : (n : ℕ) → times name ms ≡ n → has_name ms name ≡ false
+    by zero none = not_named name ms none
+    by (suc n) some = let below = named.below name (omega (arith, some)) in absurd (omega (arith, below, next))

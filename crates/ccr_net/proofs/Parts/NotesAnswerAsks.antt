@@ -9,6 +9,7 @@ use Rattle.ccr_wiring.specs.declared.parts.Kind.{Kind}
 use Rattle.ccr_wiring.specs.declared.parts.Kind.TheVariants as kinds
 use Rattle.ccr_wiring.specs.declared.parts.Parts.{Parts}
 use Rattle.ccr_model.specs.Posts.{is_task_message}
+use Rattle.ccr_base.proofs.Options.{some_is}
 use Rattle.ccr_places.specs.declared.notes.Note.{Note}
 use Rattle.ccr_places.specs.declared.notes.Note.TheVariants as notes
 use Rattle.ccr_places.specs.Arbiters.{ArbiterState}
@@ -58,8 +59,5 @@ pub record Given (w : Parts) (es : List Entry) (e : Entry) (x : Asked) : Type 0 
 
 pub given_to : (w : Parts) (lacks : Lacks) (es : List Entry) (e : Entry) → Step w lacks es e → (tu : Turn) (x : Asked) → turn (state_of w lacks es e.actor) ≡ tu → ask_in w e.actor (state_of w lacks es e.actor) tu ≡ Some x → Given w es e x
 given_to w lacks es e step tu x turns is =
-    let one : step.asking ≡ x = inside step.asking x (sym (subst (λ u. ask_in w e.actor (state_of w lacks es e.actor) u ≡ Some step.asking) turns step.asks) ∙ is) in
+    let one : step.asking ≡ x = some_is (sym (subst (λ u. ask_in w e.actor (state_of w lacks es e.actor) u ≡ Some step.asking) turns step.asks) ∙ is) in
     subst (Given w es e) one (record { there = step.there; gives = step.gives })
-  where
-    inside : (a b : Asked) → Some a ≡ Some b → a ≡ b
-    inside a b is = cc

@@ -8,6 +8,7 @@ use Rattle.std.proofs.lemmas.List.{drop-append-le, take-append-le, take_all, dro
 use Rattle.ccr_base.specs.declared.names.Place.{Place}
 use Rattle.ccr_base.specs.declared.names.Place.TheVariants as places
 use Rattle.ccr_wiring.specs.declared.parts.Parts.{Parts}
+use Rattle.ccr_base.proofs.Options.{some_is}
 use Rattle.ccr_places.specs.declared.notes.Note.{Note}
 use Rattle.ccr_places.specs.Ports as ports
 use Rattle.ccr_places.specs.Queues as queues
@@ -89,11 +90,8 @@ Step-made w lacks es e is = of_asked (asked w e.actor (state_of w lacks es e.act
     of_note : (a : Asked) → asked w e.actor (state_of w lacks es e.actor) ≡ Some a → (o : Option Note) → note_of w a.place (notes_at es a.place) a.ask ≡ o → option_map (λ note. record { actor = e.actor; place = a.place; stamp = next_stamp es a.place e.actor; note = note }) o ≡ Some e → Step w lacks es e
     of_note a asks None gives is = absurd (cc)
     of_note a asks (Some note) gives is =
-        let same = some_is _ e is in
+        let same = some_is is in
         record { asking = a; asks = asks; there = ap (λ (x : Entry). x.place) (sym same); gives = gives ∙ ap (λ (x : Entry). Some x.note) same }
-      where
-        some_is : (x y : Entry) → Some x ≡ Some y → x ≡ y
-        some_is x y is = cc
 
     of_asked : (o : Option Asked) → asked w e.actor (state_of w lacks es e.actor) ≡ o → option_and_then (entry_for w es e.actor) o ≡ Some e → Step w lacks es e
     of_asked None asks is = absurd (cc)

@@ -19,7 +19,7 @@ use Rattle.ccr_model.specs.TaskData.{placement_of}
 use Rattle.ccr_model.specs.Tasks.{queued, is_for_queue}
 use Rattle.ccr_model.specs.Legal.{IsLegal}
 use Rattle.ccr_base.proofs.Booleans.{same_number, eq-self, refuted}
-use Rattle.ccr_base.proofs.Options.{some_of}
+use Rattle.ccr_base.proofs.Options.{some_of, some_is, some_so}
 use Rattle.ccr_model.proofs.TaskSteps.{queued-put, queued-start}
 use Rattle.ccr_model.proofs.TaskLists.{without_other, without_first, has_oldest, none_gone}
 use Rattle.ccr_model.proofs.WhoWasPut.{QueuedFacts-queued}
@@ -44,11 +44,8 @@ pub one_queue : (w : Parts) (h : List Event) (q k : ℕ) (t : TaskId) → has_ta
 one_queue w h q k t at_q at_k =
     let one = some_of (λ (s : Placement). s.branch.queue == q) (placement_of w h t) (QueuedFacts-queued w h q t at_q).for_queue in
     let two = some_of (λ (s : Placement). s.branch.queue == k) (placement_of w h t) (QueuedFacts-queued w h k t at_k).for_queue in
-    let same : one.0 ≡ two.0 = inside one.0 two.0 (sym one.1 ∙ two.1) in
+    let same : one.0 ≡ two.0 = some_is (sym one.1 ∙ two.1) in
     sym (same_number one.0.branch.queue q one.2) ∙ ap (λ (s : Placement). s.branch.queue) same ∙ same_number two.0.branch.queue k two.2
-  where
-    inside : (s r : Placement) → Some s ≡ Some r → s ≡ r
-    inside s r is = cc
 
 -- ---- the steps
 
@@ -131,10 +128,7 @@ QueuesMatch-put w h queue queue' q t legal new own changes match = record {
       where
         of_drops : Drops (queue q) → (x : TaskId) → queues.put_note (queue q) ≡ Some x → has_task (put h) x ≡ true
         of_drops (drops_none none rest) x is = absurd (cc)
-        of_drops (drops_first first others qs some rest) x is = (let same : first.task ≡ x = inside first.task x (sym some ∙ is) in subst (λ u. has_task (put h) u ≡ true) same (QueuedFacts-queued w h q first.task (oldest_there first others qs)).put_so)
-          where
-            inside : (y z : TaskId) → Some y ≡ Some z → y ≡ z
-            inside y z is = cc
+        of_drops (drops_first first others qs some rest) x is = some_so (λ u. has_task (put h) u ≡ true) (sym some ∙ is) (QueuedFacts-queued w h q first.task (oldest_there first others qs)).put_so
 
     -- what is left at each queue
     left : (k : ℕ) → without (queued w h k) (option_to_list (queues.put_note (queue q))) ≡ (if q == k then map queued_task (drop (queues.drop_count (queue q)) (queue q).queued) else queued w h k)

@@ -27,8 +27,9 @@ use Rattle.ccr_model.proofs.AllowedFirings.{firing_named-new, waits_outside}
 use Rattle.ccr_model.proofs.Stable.{firing_named-append}
 use Rattle.ccr_model.proofs.TaskLists.{among_left, among_right, not_more, not_within, of_more, of_one}
 use Rattle.ccr_base.proofs.Booleans.{same_number, eq-self, refuted, no_both}
+use Rattle.ccr_base.proofs.Options.{some_is}
 use Rattle.ccr_model.proofs.FiredTasks.{IsFired, fired_has, placement_stays}
-use Rattle.ccr_model.proofs.Members.{Among, Among-left, Among-right, Among-either}
+use Rattle.ccr_model.proofs.Members.{Among, Among-left, Among-right, Among-either, both_among}
 use Rattle.ccr_model.proofs.OneMoreEvent.{firings-push, fired-fire, put-push, cut-push, ever_admitted-push}
 use Rattle.ccr_base.proofs.SameNames.{same_task-is, same_task-self, has_task-append, has_task-last}
 use Rattle.ccr_places.specs.declared.claims.StandingClaim.{StandingClaim}
@@ -64,11 +65,7 @@ module _ (w : Parts) (h : List Event) (a bound : ℕ) where
   owed_all f each (y ∷ ys) x (inr is) = owed_all f each ys x is
 
   pub owed_both : (xs ys : List Asked) → ((x : Asked) → Among x xs → Owed x) → ((x : Asked) → Among x ys → Owed x) → (x : Asked) → Among x (xs ++ ys) → Owed x
-  owed_both xs ys left right x is = of_split (Among-either x xs ys is)
-    where
-      of_split : Among x xs ⊎ Among x ys → Owed x
-      of_split (inl l) = left x l
-      of_split (inr r) = right x r
+  owed_both = both_among Owed
 
 -- ---- how many puts are in hand
 
@@ -302,11 +299,8 @@ stays_fire w h t s ms cs u legal allowed is = (rw (put-fire h t s ms cs) is.unpu
     spared : has_task (cs ++ []) u ≡ true → ⊥
     spared there =
         let waits = cut_by w h t s ms cs (OneName-legal w h legal) allowed u there in
-        let same : waits.1.firing ≡ is.fires.0 = inside waits.1.firing is.fires.0 (sym waits.1.is_firing ∙ is.fires.1) in
+        let same : waits.1.firing ≡ is.fires.0 = some_is (sym waits.1.is_firing ∙ is.fires.1) in
         no_both (subst (λ (f : Firing). needs_no_admission w f.spot || has_task (ever_admitted h) u ≡ true) (sym same) is.entered) (waits_outside w h waits.0 u waits.1)
-      where
-        inside : (f g : Firing) → Some f ≡ Some g → f ≡ g
-        inside f g same = cc
 
 pub ActorMatches-history : (w : Parts) (h : List Event) (e : Event) (port : ℕ → PortState) (a : ℕ) (st : State) → IsLegal w h → ((t : TaskId) → t.actor ≡ a → has_task (fired (h ++ e ∷ [])) t ≡ has_task (fired h) t) → ((u : TaskId) → has_task (puts_in st.hand) u ≡ true → StaysToPut w h e u) → ActorMatches w h port a st → ActorMatches w (h ++ e ∷ []) port a st
 ActorMatches-history w h e port a st legal fires puts match = record {

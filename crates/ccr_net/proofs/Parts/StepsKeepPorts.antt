@@ -14,12 +14,13 @@ use Rattle.ccr_model.specs.declared.history.Event.{Event}
 use Rattle.ccr_model.specs.declared.history.Event.TheVariants as events
 use Rattle.ccr_model.specs.Posts.{posts, taken, held}
 use Rattle.ccr_model.specs.Firings.{fired, Firing}
-use Rattle.ccr_base.proofs.Booleans.{same_number, or_left, or_right}
+use Rattle.ccr_base.proofs.Booleans.{same_number, or_left, or_right, not_false}
+use Rattle.ccr_model.proofs.Members.{Among, Among-map, any_among, same_filter, filter_all}
 use Rattle.ccr_model.proofs.HeldSteps.{held-post, held-fire}
 use Rattle.ccr_model.proofs.OneMoreEvent.{fired-fire, posts-push}
 use Rattle.ccr_model.proofs.PostNames.{times, AreNamed}
 use Rattle.ccr_base.proofs.SameNames.{same_message-self, has_task-last}
-use Rattle.ccr_model.proofs.MessageNames.{has_message-append, held_few}
+use Rattle.ccr_model.proofs.MessageNames.{has_message-append, held_few, first-named}
 use Rattle.ccr_model.proofs.TakenOnce.{taken-push}
 use Rattle.ccr_model.proofs.AllowedFirings.{firings-other}
 use Rattle.ccr_places.specs.declared.claims.StandingClaim.{StandingClaim}
@@ -30,7 +31,7 @@ use Rattle.ccr_places.specs.Ports.{PortState, first_fitting, without_first, unma
 use Rattle.ccr_places.specs.Ports as ports
 use Rattle.ccr_claim.specs.Plans.{names_of}
 use Rattle.ccr_net.proofs.Parts.PortsAndHandsMatch.{PortsMatch}
-use Rattle.ccr_net.proofs.Parts.PostsKeepMarks.{has_name, has_name-append, enough-post, without_first-post, without_first-names, without_first-named}
+use Rattle.ccr_net.proofs.Parts.PostsKeepMarks.{has_name, has_name-append, enough-post, without_first-post, without_first-named}
 
 -- the port of this number takes the note, the others stay
 abbrev pub Changes : (ℕ → PortState) → (ℕ → PortState) → ℕ → Note → Type 0
@@ -143,21 +144,9 @@ abbrev pub IsTouched : List Event → (ℕ → PortState) → TaskId → List Ms
 IsTouched h port t names q = ((c : StandingClaim) × ((port q).claim ≡ Some c) × (c.task ≡ t) × ((name : MsgId) → has_name (held h q) name ≡ true → has_message names name ≡ has_name (first_fitting c.count c.pred (port q).items) name))
     ⊎ (((c : StandingClaim) → (port q).claim ≡ Some c → same_task c.task t ≡ false) × ((name : MsgId) → has_name (held h q) name ≡ true → has_message names name ≡ false))
 
--- two lists of names that agree on the messages
-filter-agree : (ms : List Msg) (xs ys : List MsgId) → ((name : MsgId) → has_name ms name ≡ true → has_message xs name ≡ has_message ys name) → filter (λ m. not (has_message xs m.id)) ms ≡ filter (λ m. not (has_message ys m.id)) ms
-filter-agree [] xs ys agree = refl
-filter-agree (m ∷ ms) xs ys agree =
-    let here = agree m.id (grind (arith, same_message-self m.id)) in
-    let rest = filter-agree ms xs ys (λ name is. agree name (or_right (same_message name m.id) (has_name ms name) is)) in
-    rw (here, rest) refl
-
--- no name in common
-filter-apart : (ms : List Msg) (names : List MsgId) → ((name : MsgId) → has_name ms name ≡ true → has_message names name ≡ false) → filter (λ m. not (has_message names m.id)) ms ≡ ms
-filter-apart [] names apart = refl
-filter-apart (m ∷ ms) names apart =
-    let here = apart m.id (grind (arith, same_message-self m.id)) in
-    let rest = filter-apart ms names (λ name is. apart name (or_right (same_message name m.id) (has_name ms name) is)) in
-    rw here (ap (λ xs. m ∷ xs) rest)
+-- a message's name is among the names
+named_in : (ms : List Msg) (m : Msg) → Among m ms → has_name ms m.id ≡ true
+named_in ms m is = any_among (same_message m.id) (names_of ms) m.id (Among-map (λ (x : Msg). x.id) ms m is) (same_message-self m.id)
 
 -- another port
 unmarked-other : (gone : List TaskId) (port : PortState) (t : TaskId) → ((c : StandingClaim) → port.claim ≡ Some c → same_task c.task t ≡ false) → unmarked_by (gone ++ t ∷ []) port ≡ unmarked_by gone port
@@ -181,12 +170,12 @@ PortsMatch-fire h port t s names cs named fresh touched there match = record {
         let before : has_task (fired h) c.task ≡ false = rw found.2 fresh in
         let now : has_task (fired h ++ t ∷ []) c.task ≡ true = rw found.2 (has_task-last (fired h) t) in
         let items : held h q ≡ (port q).items = match.holds_so q ∙ rw (found.1, before) refl in
-        let out : without_first c.count c.pred (port q).items ≡ filter (λ (m : Msg). not (has_name (first_fitting c.count c.pred (port q).items) m.id)) (port q).items = without_first-names c.count c.pred (port q).items (λ name. subst (λ ms. times name ms ≤ 1) items (held_few h q name (named.once name))) in
-        filter-agree (held h q) names (names_of (first_fitting c.count c.pred (port q).items)) found.3
+        let out : without_first c.count c.pred (port q).items ≡ filter (λ (m : Msg). not (has_name (first_fitting c.count c.pred (port q).items) m.id)) (port q).items = first-named c.count c.pred (port q).items (λ name. subst (λ ms. times name ms ≤ 1) items (held_few h q name (named.once name))) in
+        same_filter (λ (m : Msg). not (has_message names m.id)) (λ (m : Msg). not (has_name (first_fitting c.count c.pred (port q).items) m.id)) (held h q) (λ m is. ap not (found.3 m.id (named_in (held h q) m is)))
         ∙ ap (filter (λ (m : Msg). not (has_name (first_fitting c.count c.pred (port q).items) m.id))) items
         ∙ sym out
         ∙ rw (found.1, now) refl
-    held_at q (inr apart) = filter-apart (held h q) names apart.1 ∙ match.holds_so q ∙ sym (unmarked-other (fired h) (port q) t apart.0)
+    held_at q (inr apart) = filter_all (λ (m : Msg). not (has_message names m.id)) (held h q) (λ m is. not_false (has_message names m.id) (apart.1 m.id (named_in (held h q) m is))) ∙ match.holds_so q ∙ sym (unmarked-other (fired h) (port q) t apart.0)
 
     either : (name : MsgId) (b : Bool) → has_message (taken h) name ≡ b → b || has_message names name ≡ true → has_name (posts h) name ≡ true
     either name true e is = match.taken_posted name e

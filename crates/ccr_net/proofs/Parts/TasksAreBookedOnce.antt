@@ -10,11 +10,12 @@ use Rattle.ccr_base.specs.declared.policies.Policy.TheVariants.{Throttle}
 use Rattle.ccr_base.specs.Names.{same_task, has_task}
 use Rattle.ccr_model.specs.Consequences.{are_distinct_tasks}
 use Rattle.ccr_base.proofs.Booleans.{both, neither, not_true, or_right, and_false}
-use Rattle.ccr_model.proofs.Members.{Among}
+use Rattle.ccr_model.proofs.Members.{Among, kept_among, fewer_both}
 use Rattle.ccr_base.proofs.SameNames.{same_task-is, same_task-self}
 use Rattle.ccr_places.specs.Queues.{QueueState, Queued}
 use Rattle.ccr_places.specs.Queues as queues
 use Rattle.ccr_places.specs.TaskSets.{TaskSet, task_cmp, task_cmp_total, eq_by_cmp-tasks, len-there}
+use Rattle.std.proofs.lemmas.List.Sums.{length-filter}
 
 -- ---- sets of tasks
 
@@ -148,45 +149,16 @@ IsKept fresh queued t = (set.contains fresh t ≡ true) ⊎ ((x : Queued) × Amo
 abbrev pub others_of : TaskId → List Queued → List Queued
 others_of t queued = filter (λ (x : Queued). not (same_task x.task t)) queued
 
-no_more : (t : TaskId) (xs : List Queued) → count_by is_fresh (others_of t xs) ≤ count_by is_fresh xs
-no_more t [] = omega arith
-no_more t (x ∷ xs) = of_test (same_task x.task t) refl (no_more t xs)
-  where
-    of_test : (b : Bool) → same_task x.task t ≡ b → count_by is_fresh (others_of t xs) ≤ count_by is_fresh xs → count_by is_fresh (others_of t (x ∷ xs)) ≤ count_by is_fresh (x ∷ xs)
-    of_test true e rest =
-        let gone : count_by is_fresh (others_of t (x ∷ xs)) ≡ count_by is_fresh (others_of t xs) = rw e refl in
-        let grown = count-first xs x in omega (arith, gone, rest, grown)
-    of_test false e rest =
-        let kept : count_by is_fresh (others_of t (x ∷ xs)) ≡ count_by is_fresh (others_of t xs) + cond (is_fresh x) 1 0 = rw e (count-first (others_of t xs) x) in
-        let grown = count-first xs x in omega (arith, kept, rest, grown)
-
 -- without a task that is queued as fresh there is one less
 one_less : (t : TaskId) (queued : List Queued) (x : Queued) → Among x queued → x.task ≡ t → x.resumes ≡ false → count_by is_fresh (others_of t queued) + 1 ≤ count_by is_fresh queued
-one_less t [] x is own fresh = absurd is
-one_less t (y ∷ queued) x (inl e) own fresh =
-    let mine : same_task y.task t ≡ true = ap (λ (z : Queued). same_task z.task t) (sym e) ∙ (ap (λ u. same_task u t) own ∙ same_task-self t) in
-    let counted : is_fresh y ≡ true = ap (λ (z : Queued). not z.resumes) (sym e) ∙ ap not fresh in
-    let gone : count_by is_fresh (others_of t (y ∷ queued)) ≡ count_by is_fresh (others_of t queued) = rw mine refl in
-    let grown : count_by is_fresh (y ∷ queued) ≡ count_by is_fresh queued + 1 = count-first queued y ∙ ap (λ b. count_by is_fresh queued + cond b 1 0) counted in
-    let rest = no_more t queued in omega (arith, gone, grown, rest)
-one_less t (y ∷ queued) x (inr more) own fresh = of_test (same_task y.task t) refl (one_less t queued x more own fresh)
-  where
-    of_test : (b : Bool) → same_task y.task t ≡ b → count_by is_fresh (others_of t queued) + 1 ≤ count_by is_fresh queued → count_by is_fresh (others_of t (y ∷ queued)) + 1 ≤ count_by is_fresh (y ∷ queued)
-    of_test true e rest =
-        let gone : count_by is_fresh (others_of t (y ∷ queued)) ≡ count_by is_fresh (others_of t queued) = rw e refl in
-        let grown = count-first queued y in omega (arith, gone, rest, grown)
-    of_test false e rest =
-        let kept : count_by is_fresh (others_of t (y ∷ queued)) ≡ count_by is_fresh (others_of t queued) + cond (is_fresh y) 1 0 = rw e (count-first (others_of t queued) y) in
-        let grown = count-first queued y in omega (arith, kept, rest, grown)
+one_less t queued x is own fresh =
+    let less = fewer_both is_fresh (λ (y : Queued). not (same_task y.task t)) queued x is (ap not fresh) (ap not (ap (λ u. same_task u t) own ∙ same_task-self t)) in
+    let left = length-filter is_fresh (others_of t queued) in
+    let all = length-filter is_fresh queued in
+    omega (arith, less, left, all)
 
 stays : (t : TaskId) (queued : List Queued) (x : Queued) → Among x queued → same_task x.task t ≡ false → Among x (others_of t queued)
-stays t [] x is other = absurd is
-stays t (y ∷ queued) x (inl e) other = (let out : same_task y.task t ≡ false = ap (λ (z : Queued). same_task z.task t) (sym e) ∙ other in rw out (inl e))
-stays t (y ∷ queued) x (inr more) other = by (same_task y.task t) (stays t queued x more other)
-  where
-    by : (b : Bool) → Among x (others_of t queued) → Among x (if not b then y ∷ others_of t queued else others_of t queued)
-    by true is = is
-    by false is = inr is
+stays t queued x is other = kept_among (λ (y : Queued). not (same_task y.task t)) queued x is (ap not other)
 
 -- tasks of which each is booked as fresh or queued so are no more than those
 pub kept_within : (tasks : List TaskId) (fresh : TaskSet) (queued : List Queued) → are_distinct_tasks tasks ≡ true → ((u : TaskId) → has_task tasks u ≡ true → IsKept fresh queued u) → length tasks ≤ set.len fresh + count_by is_fresh queued

@@ -1,5 +1,5 @@
 -- The task of a commit, where it fires, is what the visible history then tells of it.
-use Rattle.std.proofs.Common.{◌≡◌, ◌⊎◌, inl, inr, ◌^◌, ℕ, Bool, true, false, List, [], ◌∷◌, ◌++◌, length, map, flat_map, Some, refl, sym, arith, ap, ◌∙◌, subst}
+use Rattle.std.proofs.Common.{◌≡◌, inl, inr, ◌^◌, ℕ, Bool, true, false, List, [], ◌∷◌, ◌++◌, length, map, flat_map, Some, refl, sym, arith, ap, ◌∙◌, subst}
 use Rattle.std.specs.Prelude.{◌==◌, ◌||◌, if◌then◌else◌, nat_lt}
 use Rattle.std.specs.Option.{option_map, option_map_or}
 use Rattle.std.proofs.lemmas.Grind.{common_steps}
@@ -14,28 +14,26 @@ use Rattle.ccr_base.specs.declared.names.Spot.TheVariants.{Branch, Site}
 use Rattle.ccr_base.specs.declared.names.TaskId.{TaskId}
 use Rattle.ccr_base.specs.declared.patterns.Pattern.{Pattern}
 use Rattle.ccr_base.specs.declared.tasks.Task.{Task}
-use Rattle.ccr_base.specs.Names.{same_spot, has_task}
+use Rattle.ccr_base.specs.Names.{has_task}
 use Rattle.ccr_cause.specs.Causes.{union, with_cause}
 use Rattle.ccr_cause.proofs.Joined.{union-append}
 use Rattle.ccr_handler.specs.declared.segments.PlayEnd.{PlayEnd}
 use Rattle.ccr_handler.specs.declared.segments.PlayEnd.TheVariants as plays
 use Rattle.ccr_wiring.specs.declared.parts.Parts.{Parts}
-use Rattle.ccr_wiring.specs.Wirings.{Placement, placement, branch_of, segment_of, next_site, queue_of_spot as queue_number, domain_of_spot}
+use Rattle.ccr_wiring.specs.Wirings.{Placement, placement, queue_of_spot as queue_number, domain_of_spot}
 use Rattle.ccr_model.specs.declared.history.Event.{Event}
 use Rattle.ccr_model.specs.declared.history.Event.TheVariants as events
-use Rattle.ccr_model.specs.Firings.{Firing, firing_named, fired, fired_at, spot_of, yielded}
+use Rattle.ccr_model.specs.Firings.{Firing, fired}
 use Rattle.ccr_model.specs.Posts.{posts, held, messages_named}
-use Rattle.ccr_model.specs.Sites.{before, suspended, yields_at, yielded_at, root_at}
+use Rattle.ccr_model.specs.Sites.{before, suspended, root_at}
 use Rattle.ccr_model.specs.TaskData.{load_at, messages_of, play_at}
-use Rattle.ccr_base.proofs.Booleans.{both, same_number}
+use Rattle.ccr_base.proofs.Booleans.{same_number}
 use Rattle.ccr_model.proofs.AllowedFirings.{before-new, firing_named-new}
-use Rattle.ccr_model.proofs.Members.{Among, Among-either, Among-take, Among-kept}
-use Rattle.ccr_base.proofs.Options.{some_of, some_map}
+use Rattle.ccr_model.proofs.Members.{Among, Among-take, Among-kept, spread_some}
 use Rattle.ccr_base.specs.Lists.{has_number}
 use Rattle.ccr_model.proofs.PostNames.{AreNamed}
 use Rattle.ccr_model.proofs.Stable.{load_at-append, root_at-append}
-use Rattle.ccr_model.proofs.TaskLists.{has_oldest, has_task-drop}
-use Rattle.ccr_model.proofs.TasksLeft.{of_filter}
+use Rattle.ccr_model.proofs.Suspending.{SuspendedFacts-first}
 use Rattle.ccr_model.proofs.MessageNames.{named-found}
 use Rattle.ccr_places.specs.declared.notes.Note.TheVariants as notes
 use Rattle.ccr_places.specs.Ports.{PortState, first_fitting}
@@ -73,12 +71,7 @@ had_among (one ∷ had) p m is = by (one.slot.port == p) is (had_among had p m)
     by false there rest = let found = rest there in (found.0, inr found.1, found.2)
 
 ports_among : (had : List Had) (ps : List ℕ) (m : Msg) → Among m (flat_map (had_at had) ps) → (d : Had) × Among d had × Among m d.messages
-ports_among had [] m is = absurd is
-ports_among had (p ∷ ps) m is = by (Among-either m (had_at had p) (flat_map (had_at had) ps) is) (ports_among had ps m)
-  where
-    by : Among m (had_at had p) ⊎ Among m (flat_map (had_at had) ps) → (Among m (flat_map (had_at had) ps) → (d : Had) × Among d had × Among m d.messages) → (d : Had) × Among d had × Among m d.messages
-    by (inl here) rest = had_among had p m here
-    by (inr later) rest = rest later
+ports_among had ps m is = let it = spread_some (had_at had) ps m is in had_among had it.0 m it.2
 
 pub got_posted : (w : Parts) (h : List Event) (port : ℕ → PortState) (a : ℕ) (st : State) → AreNamed (posts h) → PortsMatch h port → ActorMatches w h port a st → has_task (fired h) (name_at a st) ≡ false → (pattern : Pattern) (m : Msg) → Among m (in_pattern pattern (had_in st.phase)) → Among m (posts h)
 got_posted w h port a st named match own fresh pattern m is =
@@ -148,24 +141,6 @@ messages_so h t spot messages cs fresh named =
 branch_built : (w : Parts) (h : List Event) (t : TaskId) (b : ℕ) (messages : List Msg) (cs : List TaskId) → has_task (fired h) t ≡ false → messages_named h (names_of messages) ≡ messages → view w (h ++ events.Fire t (Branch b) (names_of messages) cs ∷ []) t ≡ firing_task (plan_of w (Branch b)) t messages
 branch_built w h t b messages cs fresh named = rw (firing_named-new h t (Branch b) (names_of messages) cs fresh, messages_so h t (Branch b) messages cs fresh named) refl
 
--- who is suspended at a site fired at the branch and segment before it
-record SuspendedFacts (h : List Event) (b k : ℕ) (u : TaskId) : Type 0 where
-  firing : Firing
-  is_firing : firing_named h u ≡ Some firing
-  at_branch : branch_of firing.spot ≡ b
-  at_segment : segment_of firing.spot ≡ k
-
-suspended_facts : (h : List Event) (b k : ℕ) (u : TaskId) (others : List TaskId) → suspended h (Site b k) ≡ u ∷ others → SuspendedFacts h b k u
-suspended_facts h b k u others list =
-    let among : has_task (suspended h (Site b k)) u ≡ true = has_oldest (suspended h (Site b k)) others u list in
-    let yields = of_filter (yields_at h (Site b k)) (yielded h) u (has_task-drop (length (fired_at h (Site b k))) (yielded_at h (Site b k)) u among) in
-    let at = some_of (λ spot. same_spot (next_site spot) (Site b k)) (spot_of h u) yields.1 in
-    let found = some_map (λ (f : Firing). f.spot) (firing_named h u) at.0 at.1 in
-    let there : Some found.0.spot ≡ Some at.0 = sym (ap (λ o. option_map (λ (f : Firing). f.spot) o) found.1) ∙ at.1 in
-    let same : at.0 ≡ found.0.spot = cc in
-    let numbers = both (branch_of found.0.spot == b) (segment_of found.0.spot == k) (subst (λ s. same_spot (next_site s) (Site b k) ≡ true) same at.2) in
-    record { firing = found.0; is_firing = found.1; at_branch = same_number (branch_of found.0.spot) b numbers.0; at_segment = same_number (segment_of found.0.spot) k numbers.1 }
-
 -- a task that goes on for another, by its parts
 abbrev goes_on : Parts → List Event → ℕ → ℕ → TaskId → TaskId → List Msg → Task
 goes_on w h b k t u messages = record {
@@ -180,13 +155,13 @@ goes_on w h b k t u messages = record {
 
 site_viewed : (w : Parts) (h : List Event) (t u : TaskId) (b k : ℕ) (others : List TaskId) (messages : List Msg) (cs : List TaskId) → has_task (fired h) t ≡ false → messages_named h (names_of messages) ≡ messages → suspended h (Site b k) ≡ u ∷ others → view w (h ++ events.Fire t (Site b k) (names_of messages) cs ∷ []) t ≡ goes_on w h b k t u messages
 site_viewed w h t u b k others messages cs fresh named list =
-    let facts = suspended_facts h b k u others list in
+    let facts = SuspendedFacts-first h b k u others list in
     rw (firing_named-new h t (Site b k) (names_of messages) cs fresh, messages_so h t (Site b k) messages cs fresh named, before-new h t (Site b k) (names_of messages) cs fresh, list, root_at-append h (events.Fire t (Site b k) (names_of messages) cs ∷ []) b k u facts.firing facts.is_firing, load_at-append w h (events.Fire t (Site b k) (names_of messages) cs ∷ []) b k u facts.firing facts.is_firing) refl
 
 site_resumed : (w : Parts) (h : List Event) (t u : TaskId) (b k : ℕ) (others : List TaskId) (messages : List Msg) → suspended h (Site b k) ≡ u ∷ others → resumed (suspended_view w h u) (firing_task (plan_of w (Site b k)) t messages) ≡ goes_on w h b k t u messages
 site_resumed w h t u b k others messages list =
-    let facts = suspended_facts h b k u others list in
-    rw (facts.is_firing, facts.at_branch, facts.at_segment) (ap (λ cs. record (goes_on w h b k t u messages) { causes = cs }) (union_union (flat_map (λ (m : Msg). m.causes) messages) (play_at w b k (load_at w h b k u)).causes []))
+    let facts = SuspendedFacts-first h b k u others list in
+    rw (facts.is_firing, facts.same_branch, facts.same_segment) (ap (λ cs. record (goes_on w h b k t u messages) { causes = cs }) (union_union (flat_map (λ (m : Msg). m.causes) messages) (play_at w b k (load_at w h b k u)).causes []))
 
 site_built : (w : Parts) (h : List Event) (t u : TaskId) (b k : ℕ) (others : List TaskId) (messages : List Msg) (cs : List TaskId) → has_task (fired h) t ≡ false → messages_named h (names_of messages) ≡ messages → suspended h (Site b k) ≡ u ∷ others → resumed (suspended_view w h u) (firing_task (plan_of w (Site b k)) t messages) ≡ view w (h ++ events.Fire t (Site b k) (names_of messages) cs ∷ []) t
 site_built w h t u b k others messages cs fresh named list = site_resumed w h t u b k others messages list ∙ sym (site_viewed w h t u b k others messages cs fresh named list)

@@ -1,5 +1,5 @@
 -- A domain of Interleaves, which keeps its waiting tasks whole, answers each ask of a run as the run has it.
-use Rattle.std.proofs.Common.{◌≡◌, ℕ, Bool, true, false, List, [], ◌∷◌, ◌++◌, map, Option, Some, None, refl, sym, arith, ap, ◌∙◌}
+use Rattle.std.proofs.Common.{◌≡◌, ℕ, Bool, true, false, List, [], ◌∷◌, ◌++◌, map, Option, Some, None, refl, sym, ap, ◌∙◌}
 use Rattle.std.specs.Prelude.{if◌then◌else◌, slice_get, drop, is_some}
 use Rattle.std.specs.Option.{option_map, option_map_or}
 use Rattle.std.proofs.lemmas.Option.{slice_get-map}
@@ -15,7 +15,7 @@ use Rattle.ccr_wiring.specs.Wirings.{Placement, placements}
 use Rattle.ccr_model.specs.declared.history.Event.{Event}
 use Rattle.ccr_model.specs.Tasks.{is_interleave}
 use Rattle.ccr_base.proofs.Booleans.{eq-self}
-use Rattle.ccr_base.proofs.Options.{some_then}
+use Rattle.ccr_base.proofs.Options.{some_then, some_is}
 use Rattle.ccr_base.proofs.Lists.{map_twice}
 use Rattle.ccr_places.specs.Commits.{cut_tasks}
 use Rattle.ccr_places.specs.declared.notes.Note.{Note}
@@ -155,10 +155,7 @@ module _ (w : Parts) (n : ℕ) (lacks : Lacks) (es : List Entry) (e : Entry) (pl
   by_ask : (ask : Ask) → e.place ≡ places.Arbiter i → interleave_note state ask ≡ Some e.note → CommitTells w es e i ask → AnswersAs w es (at_place (places.Arbiter i) ask) e
   by_ask (asks.Commit task ms) there gives tells = commit_answers task ms there gives tells
   by_ask asks.Admit there gives tells =
-      played asks.Admit (replies.Admitted (kept.next_task told)) (notes.Admit (interleaves.admit_note state)) there (inside gives) (ap replies.Admitted (admitted_so (interleaves.next_admitted state) first_is)) refl (left_so (interleaves.admit_note state))
-    where
-      inside : {a b : Note} → Some a ≡ Some b → b ≡ a
-      inside is = cc
+      played asks.Admit (replies.Admitted (kept.next_task told)) (notes.Admit (interleaves.admit_note state)) there (sym (some_is gives)) (ap replies.Admitted (admitted_so (interleaves.next_admitted state) first_is)) refl (left_so (interleaves.admit_note state))
   by_ask (asks.Over t r how) there gives tells =
       let found = given_some (interleaves.may_over state r) (notes.Over t r how) e.note gives in
       played (asks.Over t r how) replies.Done (notes.Over t r how) there found.1 refl

@@ -10,12 +10,10 @@ use Rattle.ccr_wiring.specs.declared.parts.Parts.{Parts}
 use Rattle.ccr_wiring.specs.Groups.{is_interleave}
 use Rattle.ccr_wiring.specs.Valid.{IsValid}
 use Rattle.ccr_claim.specs.declared.asks.Ask.{Ask}
-use Rattle.ccr_claim.specs.declared.asks.Ask.TheVariants as asks
 use Rattle.ccr_claim.specs.Attempts.{at_place}
 use Rattle.ccr_runs.specs.declared.entries.Entry.{Entry}
 use Rattle.ccr_runs.specs.Places.{note_at_arbiter, note_of}
 use Rattle.ccr_runs.specs.EntryRuns.{Lacks, IsRunAfter, notes_at}
-use Rattle.ccr_net.proofs.Played.BuiltTasksAreTold.{commit_tells}
 use Rattle.ccr_net.proofs.Parts.NotesAnswerAsks.{Given}
 use Rattle.ccr_net.proofs.Kept.ValidWiringsArePlain.{plain_facts}
 use Rattle.ccr_net.proofs.Played.NextAsksAreMet.{ask_facts}
@@ -25,6 +23,7 @@ use Rattle.ccr_net.proofs.Played.ObjectsFollowNotes.{AnswersAs}
 use Rattle.ccr_net.proofs.Played.PortsAnswer.{meter_answers, port_answers}
 use Rattle.ccr_net.proofs.Played.NextAsksAreAnswered.{StepFacts}
 use Rattle.ccr_net.proofs.Played.HoldersOfTasksAnswer.{keeps_tasks, run_answers, run_holds, run_stays}
+use Rattle.ccr_net.proofs.Played.HoldersOfTasksAnswer as holders
 use Rattle.ccr_net.proofs.Parts.OneMoreEntry.{Step}
 
 module _ (w : Parts) (workers : ℕ) (lacks : Lacks) (valid : IsValid w) (few : workers ≤ 16) (es : List Entry) (e : Entry) (run : IsRunAfter w workers lacks [] es) (step : Step w lacks es e) where
@@ -39,21 +38,7 @@ module _ (w : Parts) (workers : ℕ) (lacks : Lacks) (valid : IsValid w) (few : 
 
   -- what a commit hands in
   commits : (i : ℕ) → step.asking.place ≡ places.Arbiter i → (x : Ask) → ask ≡ x → CommitTells w es e i x
-  commits i at (asks.Commit task ms) is = commit_tells w (length w.posters + workers) lacks es e (run_holds w workers lacks es valid few run).holds step i task ms (asked_at (places.Arbiter i) at ∙ ap (at_place (places.Arbiter i)) is)
-  commits i at (asks.Post m) is = tt
-  commits i at (asks.Claim t s) is = tt
-  commits i at (asks.Consume t) is = tt
-  commits i at (asks.Free t) is = tt
-  commits i at asks.Admit is = tt
-  commits i at (asks.Over t r how) is = tt
-  commits i at (asks.Suspend t) is = tt
-  commits i at (asks.Book t r) is = tt
-  commits i at (asks.Unbook t) is = tt
-  commits i at (asks.Put t) is = tt
-  commits i at asks.Take is = tt
-  commits i at asks.Draw is = tt
-  commits i at asks.Leave is = tt
-  commits i at asks.Left is = tt
+  commits = let known = run_holds w workers lacks es valid few run in holders.commits w (length w.posters + workers) (plain_facts w valid) lacks es e known.holds known.handed step
 
   -- at an arbiter: one of the wiring's, since it gave a note
   at_arbiter : (i : ℕ) → step.asking.place ≡ places.Arbiter i → AnswersAs w es step.asking e

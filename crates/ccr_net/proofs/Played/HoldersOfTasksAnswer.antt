@@ -45,7 +45,8 @@ module _ (w : Parts) (n : ℕ) (plain : PlainFacts w) (lacks : Lacks) (es : List
   asked_at : (place : Place) → step.asking.place ≡ place → step.asking ≡ at_place place ask
   asked_at place is = ap (λ p. at_place p ask) is
 
-  commits : (i : ℕ) → step.asking.place ≡ places.Arbiter i → (x : Ask) → ask ≡ x → CommitTells w es e i x
+  -- what a commit hands in
+  pub commits : (i : ℕ) → step.asking.place ≡ places.Arbiter i → (x : Ask) → ask ≡ x → CommitTells w es e i x
   commits i at (asks.Commit task ms) is = commit_tells w n lacks es e holds step i task ms (asked_at (places.Arbiter i) at ∙ ap (at_place (places.Arbiter i)) is)
   commits i at (asks.Post m) is = tt
   commits i at (asks.Claim t s) is = tt

@@ -1,7 +1,8 @@
 -- What one more act leaves.
-use Rattle.std.proofs.Common.{◌≡◌, ◌≢◌, ◌<◌, ◌≤◌, ℕ, zero, suc, max, Bool, true, false, List, [], ◌∷◌, ◌++◌, map, length, length-append, get_or, Result, Ok, Err, IfOk, OnOk, refl, sym, arith, ap, ◌∙◌, subst}
+use Rattle.std.proofs.Common.{◌≡◌, ◌≢◌, ◌<◌, ◌≤◌, ℕ, zero, suc, max, Bool, true, false, List, [], ◌∷◌, ◌++◌, map, length, length-append, get_or, Option, Result, Ok, Err, IfOk, OnOk, refl, sym, arith, ap, ◌∙◌, subst}
 use Rattle.std.specs.Prelude.{◌==◌, cond, slice_get, slice_index, slice_set}
 use Rattle.std.specs.Option.{option_map_or}
+use Rattle.std.proofs.lemmas.Option.{slice_get-get_or}
 use Rattle.std.proofs.lemmas.List.{get_or-set_same, get_or-set_other, length-map, map-append}
 use Rattle.std.proofs.Math.ListN.{length-set}
 use Rattle.std.specs.declared.snapshot.Snapshot.{Snapshot}
@@ -9,6 +10,7 @@ use Rattle.ccr_base.specs.declared.list.OutOfMemory.{OutOfMemory}
 use Rattle.ccr_base.specs.declared.names.Place.{Place}
 use Rattle.ccr_wiring.specs.declared.parts.Parts.{Parts}
 use Rattle.ccr_base.proofs.Booleans.{same_number, differ}
+use Rattle.ccr_base.proofs.Options.{get-set_same, get-set_other}
 use Rattle.ccr_claim.specs.declared.asks.Ask.{Ask}
 use Rattle.ccr_object.specs.declared.deed.PlaceAnswer.{PlaceAnswer}
 use Rattle.ccr_object.specs.declared.deed.Deed.{Deed}
@@ -38,21 +40,13 @@ deed_given x ask (Err e) note asks = tt
 -- ---- objects by number
 
 pub placed_in-here : (objects : List PlaceObject) (n : ℕ) (d : PlaceObject) → n < length objects → placed_in objects n ≡ placed (get_or objects n d)
-placed_in-here [] n d low = absurd (omega arith)
-placed_in-here (o ∷ os) zero d low = refl
-placed_in-here (o ∷ os) (suc n) d low = placed_in-here os n d (omega arith)
+placed_in-here objects n d low = ap (λ (o : Option PlaceObject). option_map_or placed o nothing) (slice_get-get_or objects n d low)
 
 pub placed_in-set : (objects : List PlaceObject) (n : ℕ) (y : PlaceObject) → n < length objects → placed_in (slice_set objects n y) n ≡ placed y
-placed_in-set [] n y low = absurd (omega arith)
-placed_in-set (o ∷ os) zero y low = refl
-placed_in-set (o ∷ os) (suc n) y low = placed_in-set os n y (omega arith)
+placed_in-set objects n y low = ap (λ (o : Option PlaceObject). option_map_or placed o nothing) (get-set_same objects n y low)
 
 pub placed_in-other : (objects : List PlaceObject) (n : ℕ) (y : PlaceObject) (k : ℕ) → k ≢ n → placed_in (slice_set objects n y) k ≡ placed_in objects k
-placed_in-other [] n y k other = refl
-placed_in-other (o ∷ os) zero y zero other = absurd (other refl)
-placed_in-other (o ∷ os) zero y (suc k) other = refl
-placed_in-other (o ∷ os) (suc n) y zero other = refl
-placed_in-other (o ∷ os) (suc n) y (suc k) other = placed_in-other os n y k (λ e. other (ap suc e))
+placed_in-other objects n y k other = ap (λ (o : Option PlaceObject). option_map_or placed o nothing) (get-set_other objects n y k other)
 
 -- ---- one more act
 

@@ -5,6 +5,7 @@ use Rattle.ccr_base.specs.declared.names.Place.{Place}
 use Rattle.ccr_base.specs.declared.names.Place.TheVariants as places
 use Rattle.ccr_wiring.specs.declared.parts.Parts.{Parts}
 use Rattle.ccr_base.proofs.Booleans.{same_number, eq-self, both}
+use Rattle.ccr_base.proofs.Options.{some_is}
 use Rattle.ccr_object.specs.Starts.{places_of}
 use Rattle.ccr_runs.specs.Played.{position_of, number_at, place_at}
 use Rattle.ccr_runs.specs.EntryRuns.{same_place}
@@ -68,10 +69,7 @@ place_at-stands w place there = ap (λ o. unwrap_or o places.Meter) there
 
 -- places of one number are one place
 pub one_place : (w : Parts) (p q : Place) → Stands w p → Stands w q → number_at w p ≡ number_at w q → p ≡ q
-one_place w p q here there same = inside (sym here ∙ ap (slice_get (places_of w)) same ∙ there)
-  where
-    inside : Some p ≡ Some q → p ≡ q
-    inside e = cc
+one_place w p q here there same = some_is (sym here ∙ ap (slice_get (places_of w)) same ∙ there)
 
 pub number_test : (w : Parts) (p q : Place) → Stands w p → Stands w q → (number_at w p == number_at w q) ≡ same_place p q
 number_test w p q here there = by (number_at w p == number_at w q) refl (same_place p q) refl

@@ -7,7 +7,7 @@ use Rattle.std.proofs.lemmas.Grind.{common_steps}
 use Rattle.std.proofs.lemmas.List.Elements.{All-nil, All-cons}
 use Rattle.ccr_base.specs.declared.names.Place.{Place}
 use Rattle.ccr_base.specs.declared.names.Place.TheVariants as places
-use Rattle.ccr_base.proofs.Options.{is_there}
+use Rattle.ccr_base.proofs.Options.{is_there, some_is}
 use Rattle.ccr_wiring.specs.declared.parts.Kind.{Kind}
 use Rattle.ccr_wiring.specs.declared.parts.Kind.TheVariants as kinds
 use Rattle.ccr_wiring.specs.declared.parts.Parts.{Parts}
@@ -91,10 +91,7 @@ record Found (w : Parts) (o : Option Asked) (number : ℕ) (ask : Ask) : Type 0 
 
 found_in : (w : Parts) (o : Option Asked) (number : ℕ) (ask : Ask) → option_map (numbered w) o ≡ Some (number, ask) → Found w o number ask
 found_in w None number ask is = absurd (cc)
-found_in w (Some one) number ask is = let same : (number_at w one.place, one.ask) ≡ (number, ask) = inside _ _ is in record { one = one; is = refl; place = ap (λ p. p.0) same; same = ap (λ p. p.1) same }
-  where
-    inside : (x y : ℕ × Ask) → Some x ≡ Some y → x ≡ y
-    inside x y e = cc
+found_in w (Some one) number ask is = let same : (number_at w one.place, one.ask) ≡ (number, ask) = some_is is in record { one = one; is = refl; place = ap (λ p. p.0) same; same = ap (λ p. p.1) same }
 
 -- the place answers with this reply and this note, and is then this object
 record Acts (w : Parts) (placed : Placed) (ask : Ask) (reply : Reply) (note : Note) (next : Object) : Type 0 where

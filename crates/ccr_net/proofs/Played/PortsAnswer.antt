@@ -8,6 +8,7 @@ use Rattle.ccr_base.specs.declared.patterns.Slot.{Slot}
 use Rattle.ccr_base.specs.Selection.{fitting, is_choosable}
 use Rattle.ccr_wiring.specs.declared.parts.Parts.{Parts}
 use Rattle.ccr_base.proofs.Booleans.{eq-self, both, same_number}
+use Rattle.ccr_base.proofs.Options.{some_is}
 use Rattle.ccr_places.specs.declared.claims.StandingClaim.{StandingClaim}
 use Rattle.ccr_places.specs.declared.notes.ClaimNote.TheVariants.{Got, Busy, Short}
 use Rattle.ccr_places.specs.declared.notes.Note.{Note}
@@ -155,17 +156,14 @@ module _ (w : Parts) (es : List Entry) (e : Entry) where
       pushed : meter_at w (es ++ e ∷ []) ≡ meters.after meter note
       pushed = meter_at-push w es e ∙ ap (λ b. if b then meters.after meter e.note else meter) (ap (λ q. same_place q places.Meter) there) ∙ ap (meters.after meter) is
 
-  inside : {a b : Note} → Some a ≡ Some b → b ≡ a
-  inside is = cc
-
   of_ask : (ask : Ask) → e.place ≡ places.Meter → meter_note meter ask ≡ Some e.note → AnswersAs w es (at_place places.Meter ask) e
-  of_ask asks.Draw there gives = meter_told asks.Draw (meter_objects.draw_reply (meters.draw_note meter)) (notes.Draw (meters.draw_note meter)) there (inside gives) refl refl refl
+  of_ask asks.Draw there gives = meter_told asks.Draw (meter_objects.draw_reply (meters.draw_note meter)) (notes.Draw (meters.draw_note meter)) there (sym (some_is gives)) refl refl refl
   of_ask asks.Leave there gives =
       let found = given_some (meters.may_leave meter) notes.Leave e.note gives in
       meter_told asks.Leave replies.Done notes.Leave there found.1 refl
       (ap (λ b. if b then Some (replies.Done, notes.Leave) else None) found.0)
       (ap (λ b. if b then meters.after_leave meter else meter) found.0)
-  of_ask asks.Left there gives = meter_told asks.Left (replies.Left meter.left) (notes.Left meter.left) there (inside gives) refl refl refl
+  of_ask asks.Left there gives = meter_told asks.Left (replies.Left meter.left) (notes.Left meter.left) there (sym (some_is gives)) refl refl refl
   of_ask (asks.Post m) there gives = absurd (cc)
   of_ask (asks.Claim t s) there gives = absurd (cc)
   of_ask (asks.Consume t) there gives = absurd (cc)

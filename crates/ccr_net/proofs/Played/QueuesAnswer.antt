@@ -12,7 +12,7 @@ use Rattle.ccr_wiring.specs.declared.parts.Parts.{Parts}
 use Rattle.ccr_model.specs.declared.history.Event.{Event}
 use Rattle.ccr_model.specs.Tasks.{queued}
 use Rattle.ccr_base.proofs.Booleans.{eq-self}
-use Rattle.ccr_base.proofs.Options.{map_map}
+use Rattle.ccr_base.proofs.Options.{map_map, some_is}
 use Rattle.ccr_model.proofs.FiredTasks.{IsFired}
 use Rattle.ccr_model.proofs.Members.{Among}
 use Rattle.ccr_model.proofs.WhoWasPut.{ArePlaced-legal, QueuedFacts-queued}
@@ -126,11 +126,8 @@ module _ (w : Parts) (n : ℕ) (lacks : Lacks) (es : List Entry) (e : Entry) (ho
       (ap (λ b. if b then Some (replies.Dropped (objects.dropped told), notes.Put task.id (queues.put_note state)) else None) found.0)
       (ap (λ b. Queue (if b then record { state = queues.after_put state task.id; tasks = drop (queues.drop_count state) told.tasks ++ task ∷ [] } else told)) found.0 ∙ (λ j. Queue (record { state = queues.after_put state task.id; tasks = put_so task tells.0 tells.1 j })))
   by_ask asks.Take there gives tells =
-      played asks.Take (replies.Taken (slice_get told.tasks 0)) (notes.Take (queues.take_note state)) there (inside gives) (ap replies.Taken first_so) refl
+      played asks.Take (replies.Taken (slice_get told.tasks 0)) (notes.Take (queues.take_note state)) there (sym (some_is gives)) (ap replies.Taken first_so) refl
       (λ j. Queue (record { state = queues.after_take state; tasks = taken_so j }))
-    where
-      inside : {a b : Note} → Some a ≡ Some b → b ≡ a
-      inside is = cc
   by_ask (asks.Post m) there gives tells = absurd (cc)
   by_ask (asks.Claim t s) there gives tells = absurd (cc)
   by_ask (asks.Consume t) there gives tells = absurd (cc)

@@ -10,7 +10,6 @@ use Rattle.ccr_actor.specs.Nets.{AreNext, Step}
 use Rattle.ccr_object.specs.declared.deed.Deed.{Deed}
 use Rattle.ccr_object.specs.declared.object.Placed.{Placed}
 use Rattle.ccr_object.specs.Objects.{after_deed, reply_of}
-use Rattle.ccr_turns.specs.declared.history.LogEntry.{LogEntry}
 use Rattle.ccr_runs.specs.declared.acts.Act.{Act}
 use Rattle.ccr_runs.specs.Runs.{Cast, IsRunFrom, cast, taught}
 use Rattle.ccr_runs.specs.Stories.{Scene, moved, story}
@@ -30,9 +29,6 @@ module _ (w : Parts) (workers : ℕ) (lacks others : Lacks) (facts : StepFacts w
   AllNext v l acts = (k : ℕ) → k < length w.posters + workers → AreNext w k (others k) (l k).0.given (steps_from w v acts k)
 
   module _ (past : List Entry) (v : Scene Placed) (l : Cast (protocol w lacks)) (act : Act Deed) (acts : List (Act Deed)) (m : Matches w workers lacks past v l) (adds : Adds w workers lacks past v l act) where
-    the_entry : LogEntry Deed Placed
-    the_entry = record { place = act.place; stamp = act.stamp; note = act.note; before = (v act.place).0; earlier = (v act.place).1 }
-
     the_step : Step
     the_step = record { asked = record { place = place_at w act.place; ask = act.note.ask.value }; reply = adds.reply }
 

@@ -15,6 +15,7 @@ use Rattle.ccr_base.specs.Names.{same_spot, has_task}
 use Rattle.ccr_wiring.specs.declared.parts.Parts.{Parts}
 use Rattle.ccr_model.specs.declared.history.Event.{Event}
 use Rattle.ccr_base.proofs.Booleans.{both, eq-self}
+use Rattle.ccr_base.proofs.Options.{some_is}
 use Rattle.ccr_base.proofs.Lists.{map_twice}
 use Rattle.ccr_model.proofs.FiredTasks.{IsFired}
 use Rattle.ccr_places.specs.declared.notes.Note.{Note}
@@ -138,11 +139,8 @@ module _ (w : Parts) (n : ℕ) (lacks : Lacks) (es : List Entry) (e : Entry) (ho
 
   by_ask : (ask : Ask) → e.place ≡ places.Site b k → site_note state ask ≡ Some e.note → SiteTells w es e b k ask → AnswersAs w es (at_place (places.Site b k) ask) e
   by_ask (asks.Commit task ms) there gives tells = commit_answers task ms there gives tells
-  by_ask (asks.Suspend task) there gives tells = played (asks.Suspend task) replies.Done (notes.Suspend task.id) there (inside gives) refl refl (λ j. Site (record { branch = state.branch; site = state.site; suspended = ((λ i. sym suspended_stay i ++ now i ∷ []) ∙ sym (map_behind (suspended_view w later) state.suspended (task.id ∷ []))) j; fired = state.fired }))
+  by_ask (asks.Suspend task) there gives tells = played (asks.Suspend task) replies.Done (notes.Suspend task.id) there (sym (some_is gives)) refl refl (λ j. Site (record { branch = state.branch; site = state.site; suspended = ((λ i. sym suspended_stay i ++ now i ∷ []) ∙ sym (map_behind (suspended_view w later) state.suspended (task.id ∷ []))) j; fired = state.fired }))
     where
-      inside : {x y : Note} → Some x ≡ Some y → y ≡ x
-      inside is = cc
-
       now : task ≡ suspended_view w later task.id
       now = tells.1 ∙ sym (ap (λ g. suspended_view w g task.id) (visible-push es e) ∙ suspended_view-stays w h (event_of e) task.id tells.0)
   by_ask (asks.Post m) there gives tells = absurd (cc)

@@ -16,7 +16,7 @@ use Rattle.ccr_wiring.specs.declared.parts.Kind.TheVariants as arbiters
 use Rattle.ccr_wiring.specs.Groups.{is_interleave}
 use Rattle.ccr_wiring.specs.Repeats.{members_in_all}
 use Rattle.ccr_wiring.specs.PartNames.{arbiter_name}
-use Rattle.ccr_wiring.proofs.Apart.{not_before}
+use Rattle.ccr_base.proofs.Apart.{not_before}
 use Rattle.ccr_wiretext.specs.declared.keyword.Keyword.TheVariants as keywords
 use Rattle.ccr_wiretext.specs.declared.named.Named.TheVariants as kinds
 use Rattle.ccr_wiretext.specs.Keywords.{keyword}

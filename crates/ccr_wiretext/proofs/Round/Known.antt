@@ -14,7 +14,7 @@ use Rattle.ccr_wiretext.specs.Names.{Naming, as_port, as_queue, as_cause, as_han
 use Rattle.ccr_wiretext.specs.Drafts.{Declared}
 use Rattle.ccr_wiretext.specs.Grammar.{IsPort, ArePorts, AreCauses}
 use Rattle.ccr_wiring.specs.PartNames.{port_name, queue_name, cause_name, handler_name}
-use Rattle.ccr_wiring.proofs.Apart.{not_before}
+use Rattle.ccr_base.proofs.Apart.{not_before}
 use Rattle.ccr_wiretext.proofs.Fit.{PortsFit}
 use Rattle.ccr_wiretext.proofs.Round.Namings.{Good, IsKnown, entries, names_of, known_get, known_more}
 use Rattle.ccr_wiretext.proofs.Round.Terms.{IsWord, name_word, name_plain}

@@ -15,7 +15,7 @@ use Rattle.ccr_wiring.specs.Repeats.{slot_ports}
 use Rattle.ccr_wiring.specs.Spots.{branch_named, times}
 use Rattle.ccr_wiring.specs.PartNames.{port_name, queue_name, handler_name}
 use Rattle.ccr_wiring.proofs.Lists.{any_none}
-use Rattle.ccr_wiring.proofs.Apart.{not_before}
+use Rattle.ccr_base.proofs.Apart.{not_before}
 use Rattle.ccr_wiretext.specs.Names.{Naming}
 use Rattle.ccr_wiretext.specs.Drafts.{Declared}
 use Rattle.ccr_wiretext.specs.Forms.{crowds}

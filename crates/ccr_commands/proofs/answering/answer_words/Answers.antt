@@ -1,5 +1,9 @@
-use Rattle.ccr_commands.proofs.Statuses.{due_said, usage_status, refused_status, excess_status, over_status, fault_status, load_status}
+use Rattle.ccr_commands.proofs.Statuses.{due_said, text_status, usage_status, refused_status, excess_status, over_status, fault_status, load_status}
 use Rattle.ccr_commands.proofs.answering.answer_words.Goals as goal
+
+pub returns-clause-of_text : goal.returns-clause-of_text
+returns-clause-of_text g c = text_status c.args.words.now (g.S.Source.rest c.args.source.now) c.in_ok-answer.answer.status c.in_ok-answer.answer.text
+    (due_said c.in_ok-request.request c.args.words.now (g.S.Source.rest c.args.source.now) c.in_ok-answer.answer.status c.in_ok-answer.answer.text c.in_ok-request.ensures.asked_for c.in_ok-answer.ensures.due)
 
 pub returns-clause-usage : goal.returns-clause-usage
 returns-clause-usage g c = λ is. usage_status c.args.words.now (g.S.Source.rest c.args.source.now) c.in_ok-answer.answer.status c.in_ok-answer.answer.text

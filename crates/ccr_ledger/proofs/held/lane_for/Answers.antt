@@ -1,7 +1,8 @@
 use Rattle.std.proofs.Common.{◌≡◌, length, arith}
 use Rattle.std.proofs.lemmas.Option.{slice_get_within}
-use Rattle.ccr_base.proofs.Options.{get-last}
-use Rattle.ccr_ledger.proofs.Lanes.{are-one_more, passed_over}
+use Rattle.ccr_base.proofs.Options.{get-last, passed_over}
+use Rattle.ccr_ledger.specs.Lanes.{IndexLaneState}
+use Rattle.ccr_ledger.proofs.Lanes.{are-one_more}
 use Rattle.ccr_ledger.proofs.held.lane_for.Goals as goal
 
 pub returns-clause-lanes : goal.returns-clause-lanes
@@ -13,7 +14,7 @@ returns-clause-found c =
     (c.in_ok-lane_of.field-0, get-last c.args.lanes.now.items _ c.len-number.result c.in_ok-lane_of.field-0 last c.in_ok-push.ensures.items, c.in_ok-lane_of.ensures.pred)
 
 pub loop-number-preserved : goal.loop-number-preserved
-loop-number-preserved c n has = passed_over c.args.lanes.now.items c.loop-number.number n c.index.result.now c.args.pred c.is_of.result c.index.ensures c.is_of.ensures c.if-is_of.false (c.loop-number.invariant n has) has
+loop-number-preserved c n has = passed_over (λ (lane : IndexLaneState). lane.pred) c.args.lanes.now.items c.loop-number.number n c.index.result.now c.args.pred c.is_of.result c.index.ensures c.is_of.ensures c.if-is_of.false (c.loop-number.invariant n has) has
 
 pub returns-clause-once : goal.returns-clause-once
 returns-clause-once c n has =
