@@ -62,6 +62,8 @@ wired kind group actions posts = record {
   arbiters = (record { name = []; kind = kind; branches = (record { name = []; group = group; queue = 0; handler = 0; pattern = Slots (any_slot 0 1 1 ∷ []) }) ∷ [] }) ∷ [];
   domains = [];
   posters = (record { name = []; posts = posts }) ∷ [];
+  open_posters = [];
+  open_handlers = [];
 }
 
 abbrev name : ℕ → ℕ → TaskId

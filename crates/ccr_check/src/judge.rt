@@ -1,6 +1,7 @@
 //! The judge that keeps what it accepted.
 
-ghost use Rattle.std.specs.Prelude.{◌≡◌, ◌++◌, ◌∷◌, [], IfNone, IfOk, IfSome, OnErr, OnOk, length, option_map};
+ghost use Rattle.std.specs.Prelude.{◌≡◌, ◌++◌, ◌∷◌, [], IfNone, IfOk, IfSome, OnErr, OnOk, length, option_map, true};
+ghost use Rattle.ccr_wiring.specs.Openness.{is_closed};
 ghost use Rattle.ccr_model.specs.Legal.{IsLegal, is_complete};
 ghost use Rattle.ccr_model.specs.Rules.{number_of, refusal};
 ghost use Rattle.ccr_checker.specs.Quiet.{MeansQuiet};
@@ -39,6 +40,7 @@ impl<'w> Model for Judge<'w> {
 impl<'w> Judge<'w> {
     /// A judge that accepted no event yet.
     pub fn new(alloc: Global, wiring: &'w Wiring) -> Result<Self, OutOfMemory>
+        requires { is_closed wiring.now ≡ true }
         ensures { IfOk result (λ judge. judge ≡ record { wiring = wiring.now; history = [] }) }
     {
         // `parts` says that the wiring is valid.

@@ -1,6 +1,7 @@
 //! The verdict on a history.
 
-ghost use Rattle.std.specs.Prelude.{◌≡◌, ◌<◌, ◌^◌, [], IfNone, IfOk, length, option_map};
+ghost use Rattle.std.specs.Prelude.{◌≡◌, ◌<◌, ◌^◌, [], IfNone, IfOk, length, option_map, true};
+ghost use Rattle.ccr_wiring.specs.Openness.{is_closed};
 ghost use Rattle.ccr_model.specs.Legal.{first_refusal, numbered};
 ghost use Rattle.ccr_check.specs.Verdicts.{TellsLegal, TellsComplete, TellsQuiet, refusal_told};
 
@@ -32,7 +33,8 @@ fn first_refusal(
 
 /// Legal where each event is allowed after those before it, else the first that isn't. No event is kept.
 pub fn verdict(alloc: Global, wiring: &Wiring, history: &History) -> Result<Verdict, OutOfMemory>
-    requires { length history.now < 2 ^ 32 }
+    requires closed { is_closed wiring.now ≡ true }
+    requires few { length history.now < 2 ^ 32 }
     ensures refusal { IfOk result (λ verdict. refusal_told verdict ≡ option_map numbered (first_refusal wiring.now [] 0 history.now)) }
     ensures legal { IfOk result (TellsLegal wiring.now history.now) }
     ensures complete { IfOk result (TellsComplete wiring.now history.now) }

@@ -2,12 +2,14 @@
 use Rattle.std.proofs.Common.{◌≡◌, ℕ, zero, suc, ◌+◌, ◌<◌, Bool, false, not, ◌&&◌, ◌||◌, List, [], ◌∷◌, length, drop, Some, refl, ap, arith}
 use Rattle.std.specs.Prelude.{◌==◌, nat_lt}
 use Rattle.std.specs.List.{slice_get, list_any}
-use Rattle.std.specs.Option.{option_map_or}
+use Rattle.std.specs.Option.{is_some, option_map_or}
 use Rattle.ccr_base.proofs.Options.{drop_at}
 use Rattle.ccr_base.specs.declared.names.TaskId.{TaskId}
+use Rattle.ccr_wiring.specs.declared.parts.Parts.{Parts}
 use Rattle.ccr_wiring.specs.declared.parts.PosterPart.{PosterPart}
 use Rattle.ccr_wiring.specs.declared.parts.ArbiterPart.{ArbiterPart}
 use Rattle.ccr_wiring.specs.declared.parts.QueuePart.{QueuePart}
+use Rattle.ccr_wiring.specs.Openness.{open_poster}
 use Rattle.ccr_model.specs.declared.history.Event.{Event}
 use Rattle.ccr_model.specs.Posts.{posts_of_poster}
 use Rattle.ccr_model.specs.Live.{is_none_of}
@@ -19,11 +21,11 @@ use Rattle.ccr_checker.proofs.Stillness.{some_head}
 use Rattle.ccr_checker.specs.LeftInTables.{has_line_left_in, can_admit_in, has_admission_in, has_queued_in, are_whole_in}
 
 -- the poster at an index first, and then those after it
-pub are_whole_from-drop : (h : List Event) (ps : List PosterPart) (i n : ℕ) (p : PosterPart) → slice_get ps i ≡ Some p → are_whole_from h n (drop i ps) ≡ (posts_of_poster h n == length p.posts) && are_whole_from h (n + 1) (drop (i + 1) ps)
-are_whole_from-drop h ps i n p at = ap (are_whole_from h n) (drop_at ps i p at)
+pub are_whole_from-drop : (w : Parts) (h : List Event) (ps : List PosterPart) (i n : ℕ) (p : PosterPart) → slice_get ps i ≡ Some p → are_whole_from w h n (drop i ps) ≡ ((posts_of_poster h n == length p.posts) || is_some (open_poster w n)) && are_whole_from w h (n + 1) (drop (i + 1) ps)
+are_whole_from-drop w h ps i n p at = ap (are_whole_from w h n) (drop_at ps i p at)
 
-pub are_whole_in-drop : (b : Books) (ps : List PosterPart) (i n : ℕ) (p : PosterPart) → slice_get ps i ≡ Some p → are_whole_in b n (drop i ps) ≡ (number b.script_posts n == length p.posts) && are_whole_in b (n + 1) (drop (i + 1) ps)
-are_whole_in-drop b ps i n p at = ap (are_whole_in b n) (drop_at ps i p at)
+pub are_whole_in-drop : (w : Parts) (b : Books) (ps : List PosterPart) (i n : ℕ) (p : PosterPart) → slice_get ps i ≡ Some p → are_whole_in w b n (drop i ps) ≡ ((number b.script_posts n == length p.posts) || is_some (open_poster w n)) && are_whole_in w b (n + 1) (drop (i + 1) ps)
+are_whole_in-drop w b ps i n p at = ap (are_whole_in w b n) (drop_at ps i p at)
 
 pub has_line_left-drop : (b : Books) (ps : List PosterPart) (i n : ℕ) (p : PosterPart) → slice_get ps i ≡ Some p → has_line_left_in b n (drop i ps) ≡ nat_lt (number b.script_posts n) (length p.posts) || has_line_left_in b (n + 1) (drop (i + 1) ps)
 has_line_left-drop b ps i n p at = ap (has_line_left_in b n) (drop_at ps i p at)

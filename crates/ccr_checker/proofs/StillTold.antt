@@ -61,7 +61,7 @@ module _ (w : Parts) (valid : IsValid w) (h : List Event) (legal : IsLegal w h) 
   is_still_told =
       rw (line_left 0 w.posters (omega arith), any_same (can_fire_in w b) (can_fire w h) (spots w) fires, admission 0 w.arbiters (omega arith), ready, none-run b.running, keeps.rows.running, queued_left 0 w.queues (omega arith)) refl
 
-  whole : (n : ℕ) (ps : List PosterPart) → n + length ps ≤ length w.posters → are_whole_in b n ps ≡ are_whole_from h n ps
+  whole : (n : ℕ) (ps : List PosterPart) → n + length ps ≤ length w.posters → are_whole_in w b n ps ≡ are_whole_from w h n ps
   whole n [] low = refl
   whole n (p ∷ ps) low = rw (keeps.script_posts.script_posts n (omega (arith, low)), whole (n + 1) ps (omega (arith, low))) refl
 

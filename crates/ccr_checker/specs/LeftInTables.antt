@@ -1,13 +1,14 @@
 -- What is left to do by the tables, and whether every post was made.
 use Rattle.std.specs.Prelude.{ℕ, ◌+◌, Bool, true, false, not, ◌==◌, ◌&&◌, ◌||◌, nat_lt, List, [], ◌∷◌, length}
 use Rattle.std.specs.List.{slice_get, list_any}
-use Rattle.std.specs.Option.{option_map_or}
+use Rattle.std.specs.Option.{is_some, option_map_or}
 use Rattle.ccr_base.specs.declared.names.TaskId.{TaskId}
 use Rattle.ccr_base.specs.declared.names.Spot.{Spot}
 use Rattle.ccr_wiring.specs.declared.parts.Parts.{Parts}
 use Rattle.ccr_wiring.specs.declared.parts.PosterPart.{PosterPart}
 use Rattle.ccr_wiring.specs.declared.parts.ArbiterPart.{ArbiterPart}
 use Rattle.ccr_wiring.specs.declared.parts.QueuePart.{QueuePart}
+use Rattle.ccr_wiring.specs.Openness.{open_poster}
 use Rattle.ccr_wiring.specs.Wirings.{spots}
 use Rattle.ccr_model.specs.Live.{is_none_of}
 use Rattle.ccr_ledger.specs.Rows.{row}
@@ -56,11 +57,12 @@ is_still_in wiring books =
     && (length books.running == 0)
     && not (has_queued_in books 0 wiring.queues)
 
--- each of the posters, of which the first has this number, has made as many posts as its script has
-abbrev pub are_whole_in : Books → ℕ → List PosterPart → Bool
-are_whole_in books poster [] = true
-are_whole_in books poster (part ∷ parts) = (number books.script_posts poster == length part.posts) && are_whole_in books (poster + 1) parts
+-- each of the posters, of which the first has this number, has made as many posts as its script has, or is open
+abbrev pub are_whole_in : Parts → Books → ℕ → List PosterPart → Bool
+are_whole_in wiring books poster [] = true
+are_whole_in wiring books poster (part ∷ parts) =
+    ((number books.script_posts poster == length part.posts) || is_some (open_poster wiring poster)) && are_whole_in wiring books (poster + 1) parts
 
--- each poster has made its whole script; and where a task was shed, tasks have made exactly as many posts as the budget
+-- each poster that isn't open has made its whole script; and where a task was shed, tasks have made exactly as many posts as the budget
 abbrev pub is_complete_in : Parts → Books → Bool → Bool
-is_complete_in wiring books shed = are_whole_in books 0 wiring.posters && (not shed || (books.task_posts == wiring.budget))
+is_complete_in wiring books shed = are_whole_in wiring books 0 wiring.posters && (not shed || (books.task_posts == wiring.budget))

@@ -1,6 +1,7 @@
 //! The judge that keeps no event.
 
-ghost use Rattle.std.specs.Prelude.{◌≡◌, ◌++◌, ◌∷◌, [], IfOk, OnErr, OnOk};
+ghost use Rattle.std.specs.Prelude.{◌≡◌, true, ◌++◌, ◌∷◌, [], IfOk, OnErr, OnOk};
+ghost use Rattle.ccr_wiring.specs.Openness.{is_closed};
 ghost use Rattle.ccr_wiring.specs.Valid.{IsValid};
 ghost use Rattle.ccr_model.specs.Legal.{IsAllowed, IsLegal, is_complete};
 ghost use Rattle.ccr_model.specs.Rules.{refusal};
@@ -115,6 +116,7 @@ impl<'w> Checker<'w> {
 
     /// Whether no event at all is allowed after those that were accepted. Nothing changes.
     pub fn quiet(&mut self) -> Result<bool, OutOfMemory>
+        requires { is_closed self.old.wiring ≡ true }
         ensures quiet { IfOk result (MeansQuiet self.old.wiring self.old.history) }
         ensures kept { self.new ≡ self.old }
     {

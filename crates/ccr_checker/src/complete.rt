@@ -11,21 +11,22 @@ use ccr_model::firings::has_shed;
 use ccr_model::posts::{posts_of_poster, posts_of_tasks};
 use ccr_wiring::{Wiring, valid_wirings_are_sound};
 
-/// Whether each poster has made as many posts as its script has.
+/// Whether each poster that isn't open has made as many posts as its script has.
 #[tactic(auto, using(crate::proofs::Numbered::numbered))]
 fn are_whole(wiring: &Wiring, events: &[Event]) -> bool
-    ensures { result ≡ are_whole_from events.now 0 wiring.now.posters }
+    ensures { result ≡ are_whole_from wiring.now events.now 0 wiring.now.posters }
 {
     valid_wirings_are_sound();
     for (number, poster) in wiring.parts().posters.as_slice().iter().enumerate() {
-        if posts_of_poster(events, number as u32) != poster.posts.as_slice().len() {
+        let made = posts_of_poster(events, number as u32);
+        if made != poster.posts.as_slice().len() && wiring.open_poster(number as u32).is_none() {
             return false;
         }
     }
     true
 }
 
-/// Whether each poster has made its whole script, and the budget is spent where a task was shed.
+/// Whether each poster that isn't open has made its whole script, and the budget is spent where a task was shed.
 pub fn is_complete(wiring: &Wiring, events: &[Event]) -> bool
     ensures { result ≡ is_complete wiring.now events.now }
 {
@@ -33,14 +34,15 @@ pub fn is_complete(wiring: &Wiring, events: &[Event]) -> bool
     are_whole(wiring, events) && (!has_shed(events) || posts_of_tasks(events) == budget)
 }
 
-/// Whether each poster has made as many posts as its script has, by the tables.
+/// Whether each poster that isn't open has made as many posts as its script has, by the tables.
 #[tactic(auto, using(crate::proofs::Numbered::numbered))]
 fn are_whole_in(wiring: &Wiring, ledger: &Ledger) -> bool
-    ensures { result ≡ are_whole_in ledger.now 0 wiring.now.posters }
+    ensures { result ≡ are_whole_in wiring.now ledger.now 0 wiring.now.posters }
 {
     valid_wirings_are_sound();
     for (number, poster) in wiring.parts().posters.as_slice().iter().enumerate() {
-        if ledger.script_posts(number as ActorNo) as usize != poster.posts.as_slice().len() {
+        let made = ledger.script_posts(number as ActorNo) as usize;
+        if made != poster.posts.as_slice().len() && wiring.open_poster(number as u32).is_none() {
             return false;
         }
     }

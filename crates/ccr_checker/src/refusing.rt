@@ -1,35 +1,58 @@
 //! The first rule that refuses an event, by the tables.
 
-ghost use Rattle.std.specs.Prelude.{◌≡◌, IfOk};
+ghost use Rattle.std.specs.Prelude.{◌≡◌, false, IfOk};
+ghost use Rattle.std.specs.List.{slice_get};
+ghost use Rattle.std.specs.Option.{option_map, option_map_or};
+ghost use Rattle.ccr_model.specs.Rules.{is_post, is_open_post_with};
+ghost use Rattle.ccr_ledger.specs.Asked.{play_in};
 ghost use Rattle.ccr_checker.specs.Judging.{is_ending, is_idle, is_next_line, is_next_post, is_unused, refusal_in, refusal_of_post_in, sheds};
 
-use ccr_base::{ActorNo, Msg, MsgId, OutOfMemory, Spot, TaskId};
+use ccr_base::{ActorNo, CauseNo, Msg, MsgId, OutOfMemory, PortNo, Spot, TaskId};
 use ccr_handler::PlayEnd;
-use ccr_ledger::Ledger;
+use ccr_ledger::{KeptPlay, Ledger};
 use ccr_model::alike::{are_same_tasks, is_post, is_same_drop};
-use ccr_model::rules::{ends_so, is_used_up};
+use ccr_model::rules::{
+    ends_so, is_line_of, is_open_post_with, is_posted_outside, is_used_up, may_choose,
+};
 use ccr_model::{EndHow, Event, Rule};
 use ccr_wiring::{MAX_ACTOR, Wiring};
 
-/// Whether the message is the poster's next line.
+/// Whether the message is the poster's next line, or the next post of an open poster.
 fn is_next_line(wiring: &Wiring, ledger: &Ledger, actor: ActorNo, index: u32, message: &Msg) -> bool
     ensures { result ≡ is_next_line wiring.now ledger.now actor index message.now }
 {
     if index != ledger.script_posts(actor) {
         return false;
     }
-    let Some(poster) = wiring.parts().posters.as_slice().get(actor as usize) else {
-        return false;
-    };
-    match poster.posts.as_slice().get(index as usize) {
-        Some(sent) => is_post(message, sent.port(), &sent.value(), sent.causes()),
+    is_line_of(wiring, actor, index, message) || is_posted_outside(wiring, actor, message)
+}
+
+fn is_post_of(play: &KeptPlay, index: u32, message: &Msg) -> bool
+    ensures { result ≡ option_map_or (is_post message.now) (slice_get play.now.posts index) false }
+{
+    match play.post(index as usize) {
+        Some(post) => is_post(message, post.port, &post.value, post.causes),
         None => false,
     }
 }
 
-/// Whether the message is the next post of the running task's play.
-fn is_next_post(ledger: &Ledger, task: TaskId, index: u32, message: &Msg) -> bool
-    ensures { result ≡ is_next_post ledger.now task index message.now }
+fn is_open_post(
+    wiring: &Wiring,
+    causes: &[CauseNo],
+    ports: Option<&[PortNo]>,
+    message: &Msg,
+) -> bool
+    ensures { result ≡ option_map_or (λ p. is_open_post_with wiring.now causes.now p message.now) (option_map (λ p. p.now) ports.entry) false }
+{
+    match ports {
+        Some(ports) => is_open_post_with(wiring, causes, ports, message),
+        None => false,
+    }
+}
+
+/// Whether the message is the next post of the running task's play, or the next post of a running task of an open handler.
+fn is_next_post(wiring: &Wiring, ledger: &Ledger, task: TaskId, index: u32, message: &Msg) -> bool
+    ensures { result ≡ is_next_post wiring.now ledger.now task index message.now }
 {
     if !ledger.runs(task) {
         return false;
@@ -40,10 +63,13 @@ fn is_next_post(ledger: &Ledger, task: TaskId, index: u32, message: &Msg) -> boo
     if index != card.made {
         return false;
     }
-    match card.play.post(index as usize) {
-        Some(post) => is_post(message, post.port, &post.value, post.causes),
-        None => false,
-    }
+    is_post_of(&card.play, index, message)
+        || is_open_post(
+            wiring,
+            card.play.own_causes(),
+            ledger.open_ports(wiring, task),
+            message,
+        )
 }
 
 fn is_unused(ledger: &Ledger, task: TaskId) -> bool
@@ -68,7 +94,7 @@ fn sheds(wiring: &Wiring, ledger: &Ledger, task: TaskId) -> bool
     is_used_up(wiring.parts().budget, posts, ledger.unfinished())
 }
 
-/// Whether the task may end so: shed, or as its play does.
+/// Whether the task may end so: shed, as its play does, or as somebody outside chooses.
 fn is_ending(wiring: &Wiring, ledger: &Ledger, task: TaskId, how: EndHow) -> bool
     ensures { result ≡ is_ending wiring.now ledger.now task how }
 {
@@ -78,9 +104,17 @@ fn is_ending(wiring: &Wiring, ledger: &Ledger, task: TaskId, how: EndHow) -> boo
     if ledger.has_more(task) {
         return false;
     }
+    let end = end_of(ledger, task);
+    ends_so(&how, &end) || ledger.open_ports(wiring, task).is_some() && may_choose(&how, &end)
+}
+
+/// How the task's play ends.
+fn end_of(ledger: &Ledger, task: TaskId) -> PlayEnd
+    ensures { result ≡ (play_in ledger.now task).end }
+{
     match ledger.card(task) {
-        Some(card) => ends_so(&how, &card.play.end()),
-        None => ends_so(&how, &PlayEnd::Done),
+        Some(card) => card.play.end(),
+        None => PlayEnd::Done,
     }
 }
 
@@ -94,7 +128,7 @@ fn refusal_of_post(wiring: &Wiring, ledger: &Ledger, message: &Msg) -> Option<Ru
             }
         }
         MsgId::Task { task, place } => {
-            if !is_next_post(ledger, task, place, message) {
+            if !is_next_post(wiring, ledger, task, place, message) {
                 return Some(Rule::PlayPost);
             }
             if !ledger.budget_lasts(wiring) {

@@ -15,6 +15,7 @@ use Rattle.ccr_wiring.specs.declared.parts.Parts.{Parts}
 use Rattle.ccr_wiring.specs.Valid.{IsSound, IsValid}
 use Rattle.ccr_wiring.specs.Wirings.{Placement, placement, site_port}
 use Rattle.ccr_wiring.proofs.Soundness.{sound}
+use Rattle.ccr_model.proofs.Closed.{own_end}
 use Rattle.ccr_model.specs.declared.history.Event.{Event}
 use Rattle.ccr_model.specs.declared.history.Event.TheVariants as events
 use Rattle.ccr_model.specs.declared.history.EndHow.{EndHow}
@@ -37,7 +38,7 @@ use Rattle.ccr_net.proofs.Known.CausesAreKnown.{fine_causes, posted_fine}
 use Rattle.ccr_trace.specs.Known.{AreKnown, HasMessages, HaveMessages, IsKnown, IsKnownEnd, IsKnownSpot}
 use Rattle.ccr_trace.specs.Values.{HasSmallValue, HaveSmallValues, IsSmallEnd, IsSmallValue}
 use Rattle.ccr_trace.proofs.SingleValues.{of_version, same_single}
-use Rattle.ccr_commands.proofs.SinglePosts.{failed_single, posted_single}
+use Rattle.ccr_commands.proofs.SinglePosts.{failed_single, old_closed, posted_single}
 use Rattle.ccr_laws.proofs.MessagesAreTakenOnce.{selection_named}
 use Rattle.ccr_laws.proofs.Valid.{TakesSome-valid}
 
@@ -69,8 +70,10 @@ module _ (w : Parts) (valid : IsValid w) where
   end_known h task (ends.Failed value) legal allowed small =
       let running_so = refused_not (has_task (running h) task) _ _ allowed in
       let may = (refused_not (may_end w h task (ends.Failed value)) _ None running_so.1).0 in
-      let so = failed_as value (play_of w h task).end (both (not (has_post_left w h task)) (ends_so (ends.Failed value) (play_of w h task).end) may).1 in
-      of_version w valid value small (λ none. same_single value so.0 so.2 (failed_single w none h legal task so.0 so.1))
+      of_version w valid value small (λ none.
+      let own = own_end w (old_closed w none) h task (ends.Failed value) may in
+      let so = failed_as value (play_of w h task).end (both (not (has_post_left w h task)) (ends_so (ends.Failed value) (play_of w h task).end) own).1 in
+      same_single value so.0 so.2 (failed_single w none h legal task so.0 so.1))
   end_known h task ends.Done legal allowed small = tt
   end_known h task ends.Yield legal allowed small = tt
   end_known h task ends.Shed legal allowed small = tt

@@ -1,5 +1,5 @@
 -- In a wiring of version 1 each value of a legal history is one number at most.
-use Rattle.std.proofs.Common.{◌⊎◌, inl, inr, ◌≡◌, ℕ, zero, suc, Bool, true, false, List, [], ◌∷◌, map, Option, Some, None, refl, sym, subst}
+use Rattle.std.proofs.Common.{◌⊎◌, inl, inr, ◌≡◌, ℕ, zero, suc, Bool, true, false, List, [], ◌∷◌, map, Option, Some, None, refl, sym, subst, ◌||◌, not}
 use Rattle.std.specs.Prelude.{if◌then◌else◌, slice_get}
 use Rattle.std.specs.List.{list_any}
 use Rattle.std.specs.Option.{option_map_or}
@@ -16,13 +16,14 @@ use Rattle.ccr_wiring.specs.declared.parts.Parts.{Parts}
 use Rattle.ccr_wiring.specs.declared.parts.PosterPart.{PosterPart}
 use Rattle.ccr_wiring.specs.Versions.{action_is_newer, handler_is_newer, is_long, is_newer, poster_is_newer}
 use Rattle.ccr_wiring.specs.Wirings.{Placement, actions_of, branch_of, exception_port, placement, segment_of, actions_at}
+use Rattle.ccr_wiring.specs.Openness.{is_closed}
 use Rattle.ccr_model.specs.declared.history.Event.{Event}
 use Rattle.ccr_model.specs.Firings.{spot_of}
 use Rattle.ccr_model.specs.Legal.{IsLegal}
 use Rattle.ccr_model.specs.Posts.{posts}
 use Rattle.ccr_model.specs.Sites.{resumed}
 use Rattle.ccr_model.specs.TaskData.{Load, load_after, load_at, messages_of, no_load, no_play, play_at, play_of, with_messages}
-use Rattle.ccr_base.proofs.Booleans.{neither}
+use Rattle.ccr_base.proofs.Booleans.{neither, not_refuted}
 use Rattle.ccr_model.proofs.Members.{Among, Among-either, Among-mapped}
 use Rattle.ccr_base.proofs.Lists.{none_at}
 use Rattle.ccr_model.proofs.PostedMessages.{each_posted, post_allowed}
@@ -46,7 +47,7 @@ module _ (w : Parts) (none : is_newer w ≡ false) where
   from_old (suc k) acts old = after_old (actions_from k acts) (from_old k acts old)
 
   handlers_old : list_any handler_is_newer w.handlers ≡ false
-  handlers_old = (neither (list_any handler_is_newer w.handlers) (list_any poster_is_newer w.posters) none).0
+  handlers_old = (neither (list_any handler_is_newer w.handlers) (list_any poster_is_newer w.posters) (neither (list_any handler_is_newer w.handlers || list_any poster_is_newer w.posters) (not (is_closed w)) none).0).0
 
   of_old : (handler : ℕ) → list_any action_is_newer (actions_of w handler) ≡ false
   of_old handler = by (slice_get w.handlers handler) refl
@@ -99,11 +100,15 @@ module _ (w : Parts) (none : is_newer w ≡ false) where
 
   script_single : (poster : ℕ) (part : PosterPart) (index : ℕ) (sent : Sent) → slice_get w.posters poster ≡ Some part → slice_get part.posts index ≡ Some sent → IsSingle sent.value
   script_single poster part index sent is line =
-      let old : poster_is_newer part ≡ false = none_at poster_is_newer w.posters poster part (neither (list_any handler_is_newer w.handlers) (list_any poster_is_newer w.posters) none).1 is in
+      let old : poster_is_newer part ≡ false = none_at poster_is_newer w.posters poster part (neither (list_any handler_is_newer w.handlers) (list_any poster_is_newer w.posters) (neither (list_any handler_is_newer w.handlers || list_any poster_is_newer w.posters) (not (is_closed w)) none).0).1 is in
       not_long sent.value (none_at (λ (post : Sent). is_long post.value) part.posts index sent old line)
 
+  -- nothing is open
+  pub old_closed : is_closed w ≡ true
+  old_closed = not_refuted (is_closed w) (neither (list_any handler_is_newer w.handlers || list_any poster_is_newer w.posters) (not (is_closed w)) none).1
+
   pub posted_single : (h : List Event) → IsLegal w h → ArePosted h
-  posted_single h legal = each_posted w (λ (m : Msg). IsSingle m.value) (λ g m lawful known allowed. (let it = post_allowed w g m (λ (sent : Sent). IsSingle sent.value) script_single (λ t. (play_of-single g known t).posts) m.id allowed in subst IsSingle (sym it.1.value) it.2)) h legal
+  posted_single h legal = each_posted w (λ (m : Msg). IsSingle m.value) (λ g m lawful known allowed. (let it = post_allowed w old_closed g m (λ (sent : Sent). IsSingle sent.value) script_single (λ t. (play_of-single g known t).posts) m.id allowed in subst IsSingle (sym it.1.value) it.2)) h legal
 
   pub failed_single : (h : List Event) → IsLegal w h → (t : TaskId) (value : List ℕ) → (play_of w h t).end ≡ plays.Failed value → IsSingle value
   failed_single h legal t value is = (play_of-single h (posted_single h legal) t).end value is

@@ -1,5 +1,5 @@
 -- What a run accounts for: each post of each poster, and each message that a port accepted.
-use Rattle.std.specs.Prelude.{◌≡◌, ℕ, ◌≤◌, List, Some, map}
+use Rattle.std.specs.Prelude.{◌≡◌, ℕ, ◌≤◌, List, Some, map, None}
 use Rattle.std.specs.List.{slice_get}
 use Rattle.ccr_base.specs.declared.names.MsgId.{MsgId}
 use Rattle.ccr_base.specs.declared.names.TaskId.{TaskId}
@@ -8,6 +8,7 @@ use Rattle.ccr_base.specs.declared.messages.Msg.{Msg}
 use Rattle.ccr_wiring.specs.declared.parts.Parts.{Parts}
 use Rattle.ccr_wiring.specs.declared.parts.PosterPart.{PosterPart}
 use Rattle.ccr_wiring.specs.Valid.{IsValid}
+use Rattle.ccr_wiring.specs.Openness.{open_poster}
 use Rattle.ccr_model.specs.declared.history.Event.{Event}
 use Rattle.ccr_model.specs.declared.history.Event.TheVariants.{Post, Fire}
 use Rattle.ccr_model.specs.Laws.{times_taken}
@@ -16,11 +17,12 @@ use Rattle.ccr_laws.specs.Scripts.{posts_by, sent_of, FollowsScript}
 use Rattle.ccr_laws.specs.OneFate.{HasOneFate}
 use Rattle.ccr_laws.specs.WholePattern.{TakesWhole}
 
--- every poster's posts stand once and in order, and are its whole script
+-- the posts of every poster that isn't open stand once and in order, and are its whole script
 abbrev pub ScriptsStand : Parts → List Event → Type 0
 ScriptsStand wiring history =
     (number : ℕ) (poster : PosterPart)
     → slice_get wiring.posters number ≡ Some poster
+    → open_poster wiring number ≡ None
     → FollowsScript history number poster.posts × (map sent_of (posts_by history number) ≡ poster.posts)
 
 -- every posted message is held by its port, or taken by one task that stands in one state

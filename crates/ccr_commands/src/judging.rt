@@ -1,6 +1,7 @@
 //! What is found of an output that stands behind its wiring.
 
-ghost use Rattle.std.specs.Prelude.{◌≡◌, ◌≤◌, ◌+◌, List as Listed, Ok, IfOk, length};
+ghost use Rattle.std.specs.Prelude.{◌≡◌, ◌≤◌, ◌+◌, List as Listed, Ok, IfOk, length, true};
+ghost use Rattle.ccr_wiring.specs.Openness.{is_closed};
 ghost use Rattle.ccr_base.specs.Bounds.{most_bytes};
 ghost use Rattle.ccr_model.specs.declared.history.Event.{Event as SomeEvent};
 ghost use Rattle.ccr_report.specs.Counted.{HasRows, IsCounted};
@@ -95,6 +96,7 @@ pub fn finding_of(
     before: u32,
     output: &[u8],
 ) -> Result<Finding, OutOfMemory>
+    requires closed { is_closed wiring.now ≡ true }
     requires before { before ≤ most_bytes }
     requires length { length output.now ≤ most_bytes }
     ensures { IfOk result (IsFound wiring.now before output.now) }

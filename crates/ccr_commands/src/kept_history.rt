@@ -1,6 +1,7 @@
 //! The history of a run, kept whole for what looks for tasks in it: the answers to a service's requests.
 
 ghost use Rattle.std.specs.Prelude.{◌≡◌, ◌<◌, ◌≤◌, true, length, All, IfOk, OnOk, IfSome, option_map};
+ghost use Rattle.ccr_wiring.specs.Openness.{is_closed};
 ghost use Rattle.ccr_base.specs.Bounds.{most_actors, most_workers};
 ghost use Rattle.ccr_wiring.specs.Actors.{actor_count};
 ghost use Rattle.ccr_model.specs.Firings.{fired};
@@ -32,6 +33,7 @@ fn finish(
     closer: ActorNo,
     first: History,
 ) -> Result<History, OutOfMemory>
+    requires closed { is_closed wiring.now ≡ true }
     requires no_poster { length wiring.now.posters ≤ closer }
     requires low { closer ≤ most_actors }
     requires legal { IsLegal wiring.now first }
@@ -55,6 +57,7 @@ pub fn run_history<R: AllocGlobal + Threads + Wait + Sync, G: Gate + Sync>(
     workers: u32,
     turns: Option<&[ActorNo]>,
 ) -> Result<(Snapshot<History>, History), OutOfMemory>
+    requires closed { is_closed wiring.now ≡ true }
     requires workers { workers ≤ most_workers }
     requires turns { IfSome turns (λ turns. All (λ actor. actor < actor_count wiring.now workers) turns.now) }
     ensures begins { IfOk result (λ made. Begins wiring.now workers (option_map (λ t. t.now) turns.entry) made.0.value) }

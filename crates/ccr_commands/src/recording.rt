@@ -1,6 +1,7 @@
 //! A run that is written down as whose turn it was.
 
-ghost use Rattle.std.specs.Prelude.{◌≡◌, ◌==◌, ◌<◌, ◌≤◌, ◌+◌, IfOk, is_ok, length};
+ghost use Rattle.std.specs.Prelude.{◌≡◌, ◌==◌, ◌<◌, ◌≤◌, ◌+◌, IfOk, is_ok, length, true};
+ghost use Rattle.ccr_wiring.specs.Openness.{is_closed};
 ghost use Rattle.ccr_base.specs.Bounds.{most_wiring_bytes, most_workers};
 ghost use Rattle.ccr_commands.specs.Answers.{AnswersText};
 ghost use Rattle.ccr_commands.specs.Records.{AreTurnsToRest, RecordGives};
@@ -37,6 +38,7 @@ fn threaded_turns<R: AllocGlobal + Threads + Wait + Sync, G: Gate + Sync>(
     wiring: &Wiring,
     workers: u32,
 ) -> Result<List<ActorNo>, OutOfMemory>
+    requires closed { is_closed wiring.now ≡ true }
     requires some { 0 < workers }
     requires many { workers ≤ most_workers }
     ensures { IfOk result (AreTurnsToRest wiring.now workers) }
@@ -58,7 +60,8 @@ fn turns_to_rest<R: AllocGlobal + Threads + Wait + Sync, G: Gate + Sync>(
     wiring: &Wiring,
     workers: u32,
 ) -> Result<List<ActorNo>, OutOfMemory>
-    requires { workers ≤ most_workers }
+    requires closed { is_closed wiring.now ≡ true }
+    requires workers { workers ≤ most_workers }
     ensures { IfOk result (AreTurnsToRest wiring.now workers) }
 {
     if workers == 0 {
@@ -76,7 +79,8 @@ fn record<R: AllocGlobal + Threads + Wait + Sync, G: Gate + Sync>(
     wiring: &Wiring,
     workers: u32,
 ) -> Result<Output, OutOfMemory>
-    requires { workers ≤ most_workers }
+    requires closed { is_closed wiring.now ≡ true }
+    requires workers { workers ≤ most_workers }
     ensures { IfOk result (λ due. RecordGives wiring.now workers text.now due.status due.text) }
 {
     let turns = turns_to_rest(rt, gate, wiring, workers)?;

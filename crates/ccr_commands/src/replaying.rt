@@ -1,6 +1,7 @@
 //! A record: its run made again, or the steps of that run.
 
-ghost use Rattle.std.specs.Prelude.{◌<◌, ◌≤◌, All, IfOk, length};
+ghost use Rattle.std.specs.Prelude.{◌<◌, ◌≤◌, All, IfOk, length, ◌≡◌, true};
+ghost use Rattle.ccr_wiring.specs.Openness.{is_closed};
 ghost use Rattle.ccr_base.specs.Bounds.{most_bytes, most_workers};
 ghost use Rattle.ccr_wiring.specs.Actors.{actor_count};
 ghost use Rattle.ccr_commands.specs.Answers.{AnswersText};
@@ -23,6 +24,7 @@ fn replay<R: AllocGlobal + Threads + Wait + Sync, G: Gate + Sync>(
     gate: &G,
     said: &Record,
 ) -> Result<Output, OutOfMemory>
+    requires closed { is_closed said.now.wiring ≡ true }
     requires workers { said.now.workers ≤ most_workers }
     requires turns { All (λ actor. actor < actor_count said.now.wiring said.now.workers) said.now.turns }
     ensures { IfOk result (λ due. ReplayGives said.now due.status due.text) }
@@ -37,6 +39,7 @@ fn replay<R: AllocGlobal + Threads + Wait + Sync, G: Gate + Sync>(
 
 /// The steps of the run of the record's turns.
 fn steps(alloc: Global, said: &Record) -> Result<Output, OutOfMemory>
+    requires closed { is_closed said.now.wiring ≡ true }
     requires workers { said.now.workers ≤ most_workers }
     requires turns { All (λ actor. actor < actor_count said.now.wiring said.now.workers) said.now.turns }
     ensures { IfOk result (λ due. StepsGives said.now due.status due.text) }

@@ -1,6 +1,7 @@
 //! A run, as text: what the actors do, and what the serial order does behind it.
 
-ghost use Rattle.std.specs.Prelude.{◌≡◌, ◌<◌, ◌≤◌, ◌++◌, List as Listed, All, IfOk, IfSome, option_map};
+ghost use Rattle.std.specs.Prelude.{◌≡◌, ◌<◌, ◌≤◌, ◌++◌, List as Listed, All, IfOk, IfSome, option_map, true};
+ghost use Rattle.ccr_wiring.specs.Openness.{is_closed};
 ghost use Rattle.ccr_base.specs.Bounds.{most_workers};
 ghost use Rattle.ccr_wiring.specs.Actors.{actor_count};
 ghost use Rattle.ccr_model.specs.declared.history.Event.{Event};
@@ -66,6 +67,7 @@ fn tell_run<R: AllocGlobal + Threads + Wait + Sync, G: Gate + Sync>(
     workers: u32,
     turns: Option<&[ActorNo]>,
 ) -> Result<Told, OutOfMemory>
+    requires closed { is_closed wiring.now ≡ true }
     requires workers { workers ≤ most_workers }
     requires turns { IfSome turns (λ turns. All (λ actor. actor < actor_count wiring.now workers) turns.now) }
     ensures { IfOk result (IsToldOf wiring.now workers (option_map (λ t. t.now) turns.entry)) }
@@ -87,6 +89,7 @@ pub fn run<R: AllocGlobal + Threads + Wait + Sync, G: Gate + Sync>(
     turns: Option<&[ActorNo]>,
     json: bool,
 ) -> Result<Output, OutOfMemory>
+    requires closed { is_closed wiring.now ≡ true }
     requires workers { workers ≤ most_workers }
     requires turns { IfSome turns (λ turns. All (λ actor. actor < actor_count wiring.now workers) turns.now) }
     ensures { IfOk result (λ due. RunGives json wiring.now workers (option_map (λ t. t.now) turns.entry) due.status due.text) }

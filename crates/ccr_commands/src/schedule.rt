@@ -1,6 +1,7 @@
 //! An input that is a wiring with turns behind it.
 
 ghost use Rattle.std.specs.Prelude.{◌≡◌, ◌<◌, ◌≤◌, All, IfErr, IfOk, Err, Ok, Some, length, true};
+ghost use Rattle.ccr_wiring.specs.Openness.{is_closed};
 ghost use Rattle.ccr_base.specs.Bounds.{most_wiring_bytes, most_workers};
 ghost use Rattle.ccr_wiring.specs.Actors.{actor_count};
 ghost use Rattle.ccr_wiretext.specs.Answers.{IsReading};
@@ -30,6 +31,7 @@ fn read_schedule(
     requires length { length text.now ≤ most_wiring_bytes }
     ensures wiring { IfOk result (λ read. reading_run true workers text.now ≡ Ok read.0) }
     ensures turns { IfOk result (λ read. turns_of true read.0 workers text.now ≡ Some read.1) }
+    ensures closed { IfOk result (λ read. is_closed read.0 ≡ true) }
     ensures actors { IfOk result (λ read. All (λ actor. actor < actor_count read.0 workers) read.1) }
     ensures refused { IfErr result (λ why. IsReading (Err why) (reading_run true workers text.now)) }
 {

@@ -1,6 +1,7 @@
 //! An input that is a wiring with an output behind it.
 
-ghost use Rattle.std.specs.Prelude.{◌≡◌, ◌≤◌, Bool, IfOk, length};
+ghost use Rattle.std.specs.Prelude.{◌≡◌, ◌≤◌, Bool, IfOk, length, true};
+ghost use Rattle.ccr_wiring.specs.Openness.{is_closed};
 ghost use Rattle.ccr_base.specs.Bounds.{most_bytes};
 ghost use Rattle.ccr_commands.specs.Findings.{VerifyGives, status_of};
 ghost use Rattle.ccr_commands.specs.Answers.{AnswersText, PartsGive};
@@ -35,6 +36,7 @@ fn judge_output(
     before: u32,
     output: &[u8],
 ) -> Result<Output, OutOfMemory>
+    requires closed { is_closed wiring.now ≡ true }
     requires before { before ≤ most_bytes }
     requires length { length output.now ≤ most_bytes }
     ensures { IfOk result (λ due. VerifyGives wiring.now before output.now due.status due.text) }

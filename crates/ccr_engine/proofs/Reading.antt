@@ -2,6 +2,7 @@
 use Rattle.std.proofs.Common.{◌≡◌, ℕ, ◌≤◌, Bool, true, List, [], ◌∷◌, ◌++◌, length, Option, Some, refl, subst}
 use Rattle.ccr_wiring.specs.declared.parts.Parts.{Parts}
 use Rattle.ccr_wiring.specs.Valid.{IsValid}
+use Rattle.ccr_wiring.specs.Openness.{is_closed}
 use Rattle.ccr_model.specs.declared.history.Event.{Event}
 use Rattle.ccr_ledger.specs.Books.{Books}
 use Rattle.ccr_ledger.specs.Kept.{Keeps}
@@ -11,8 +12,8 @@ use Rattle.ccr_engine.specs.Engine.{Engine, IsSound, next_event}
 use Rattle.ccr_engine.proofs.DesksAlongHistories.{ahead_by, first_by, idle_by, stands_next, stands_none}
 use Rattle.ccr_engine.proofs.Runs.{IsAllowed-next, IsSound-event, IsSound-start, IsSound-pushed}
 
-pub IsRead-start : (w v : Parts) (c : ℕ) (h : List Event) (d : Desk) → IsValid w → length w.posters ≤ c → c ≤ 32 → v ≡ w → h ≡ [] → d ≡ empty_desk w → IsRead (record { wiring = v; closer = c; history = h }) d true
-IsRead-start w v c h d valid high low same none is = rw (same, none, is) (record { sound = IsSound-start w c valid high low; stands = λ current. stands_none w valid c })
+pub IsRead-start : (w v : Parts) (c : ℕ) (h : List Event) (d : Desk) → IsValid w → is_closed w ≡ true → length w.posters ≤ c → c ≤ 32 → v ≡ w → h ≡ [] → d ≡ empty_desk w → IsRead (record { wiring = v; closer = c; history = h }) d true
+IsRead-start w v c h d valid closed high low same none is = rw (same, none, is) (record { sound = IsSound-start w c valid closed high low; stands = λ current. stands_none w valid c })
 
 pub IsRead-behind : (w v : Parts) (c : ℕ) (es h : List Event) (d : Desk) → IsSound (record { wiring = w; closer = c; history = es }) → v ≡ w → h ≡ es → Stands v c es d → IsRead (record { wiring = v; closer = c; history = h }) d true
 IsRead-behind w v c es h d sound same is stands =
@@ -42,4 +43,4 @@ IsRead-next s old new e h read is follows more =
 
 -- what comes next, with the tables before it
 pub ComesNext-first : (s : Engine) (b : Books) (e : Event) → IsSound s → Keeps s.wiring s.history b → next_event s ≡ Some e → ComesNext s.wiring s.history b e
-ComesNext-first s b e sound keeps is = record { valid = sound.valid; tables = keeps; legal = (IsSound-event s sound e is).legal }
+ComesNext-first s b e sound keeps is = record { valid = sound.valid; closed = sound.closed; tables = keeps; legal = (IsSound-event s sound e is).legal }

@@ -4,6 +4,7 @@ use Rattle.std.specs.Prelude.{IfSome, IfNone, is_some, ◌^◌}
 use Rattle.ccr_base.proofs.Options.{not_some}
 use Rattle.ccr_wiring.specs.declared.parts.Parts.{Parts}
 use Rattle.ccr_wiring.specs.Valid.{IsValid}
+use Rattle.ccr_wiring.specs.Openness.{is_closed}
 use Rattle.ccr_model.specs.declared.history.Event.{Event}
 use Rattle.ccr_model.specs.Firings.{fired}
 use Rattle.ccr_model.specs.Legal.{IsAllowed, IsLegal, IsQuiet, is_complete}
@@ -35,25 +36,25 @@ pub IsLegal-first : (w : Parts) (c : ℕ) (h : List Event) (e : Event) → lengt
 IsLegal-first w c h e high low legal is = IsLegal-push w h e legal (some_if (IsAllowed w h) (first w c h) e is (first_allowed w c h high low legal))
 
 -- fewer events are to come after each that is allowed
-pub potential-push : (w : Parts) → TakesSome w → (h : List Event) (e : Event) → IsLegal w (h ++ e ∷ []) → potential w (h ++ e ∷ []) < potential w h
-potential-push w some h e legal = omega (arith, few_events w some (h ++ e ∷ []) legal, length-append h (e ∷ []))
+pub potential-push : (w : Parts) → TakesSome w → is_closed w ≡ true → (h : List Event) (e : Event) → IsLegal w (h ++ e ∷ []) → potential w (h ++ e ∷ []) < potential w h
+potential-push w some closed h e legal = omega (arith, few_events w some closed (h ++ e ∷ []) legal, length-append h (e ∷ []))
 
 -- a sound engine's history is short, and its closer's next attempt fits
 pub IsSound-short : (s : Engine) → IsSound s → length s.history ≤ 120000
-IsSound-short s sound = omega (arith, few_events s.wiring (TakesSome-valid s.wiring sound.valid) s.history sound.legal, event_bound-valid s.wiring sound.valid)
+IsSound-short s sound = omega (arith, few_events s.wiring (TakesSome-valid s.wiring sound.valid) sound.closed s.history sound.legal, event_bound-valid s.wiring sound.valid sound.closed)
 
 pub IsSound-attempts : (s : Engine) → IsSound s → next_attempt s.closer (fired s.history) < 2 ^ 32
 IsSound-attempts s sound = omega (arith, sound.attempts, IsSound-short s sound)
 
-pub IsSound-start : (w : Parts) (c : ℕ) → IsValid w → length w.posters ≤ c → c ≤ 32 → IsSound (record { wiring = w; closer = c; history = [] })
-IsSound-start w c valid high low = record { valid = valid; high = high; low = low; legal = tt; attempts = omega arith }
+pub IsSound-start : (w : Parts) (c : ℕ) → IsValid w → is_closed w ≡ true → length w.posters ≤ c → c ≤ 32 → IsSound (record { wiring = w; closer = c; history = [] })
+IsSound-start w c valid closed high low = record { valid = valid; closed = closed; high = high; low = low; legal = tt; attempts = omega arith }
 
 few_attempts : (c : ℕ) (h : List Event) → next_attempt c (fired h) ≤ 2 ^ 31 → next_attempt c (fired h) < 2 ^ 31 + length h
 few_attempts c [] few = omega arith
 few_attempts c (e ∷ h) few = omega (arith, few)
 
-pub IsSound-resume : (w : Parts) (c : ℕ) (h : List Event) → IsValid w → length w.posters ≤ c → c ≤ 32 → IsLegal w h → next_attempt c (fired h) ≤ 2 ^ 31 → IsSound (record { wiring = w; closer = c; history = h })
-IsSound-resume w c h valid high low legal few = record { valid = valid; high = high; low = low; legal = legal; attempts = few_attempts c h few }
+pub IsSound-resume : (w : Parts) (c : ℕ) (h : List Event) → IsValid w → is_closed w ≡ true → length w.posters ≤ c → c ≤ 32 → IsLegal w h → next_attempt c (fired h) ≤ 2 ^ 31 → IsSound (record { wiring = w; closer = c; history = h })
+IsSound-resume w c h valid closed high low legal few = record { valid = valid; closed = closed; high = high; low = low; legal = legal; attempts = few_attempts c h few }
 
 -- the event that comes next leaves an engine sound
 pub IsSound-event : (s : Engine) → IsSound s → (e : Event) → next_event s ≡ Some e → IsSound (record s { history = s.history ++ e ∷ [] })
@@ -62,6 +63,7 @@ IsSound-event s sound e is =
     let attempt = some_if (λ x. next_attempt s.closer (fired (s.history ++ x ∷ [])) ≤ next_attempt s.closer (fired s.history) + 1) (next_event s) e is (next_attempt-first s.wiring s.closer s.history) in
     record {
       valid = sound.valid;
+      closed = sound.closed;
       high = sound.high;
       low = sound.low;
       legal = IsLegal-first s.wiring s.closer s.history e sound.high sound.low sound.legal is;
@@ -81,7 +83,7 @@ IsAllowed-next s sound e is = some_if (IsAllowed s.wiring s.history) (first s.wi
 
 pub IsQuiet-next : (s : Engine) → IsSound s → next_event s ≡ None → IsQuiet s.wiring s.history
 unfolding next_event
-IsQuiet-next s sound is = IsQuiet-first s.wiring s.closer s.history (HasQueues-valid s.wiring sound.valid) is
+IsQuiet-next s sound is = IsQuiet-first s.wiring s.closer s.history (HasQueues-valid s.wiring sound.valid) sound.closed is
 
 pub IsSound-next : (s n : Engine) → IsSound s → n ≡ next_engine s → IsSound n
 IsSound-next s n sound is = rw is (of_next (next_event s) refl)
@@ -133,7 +135,7 @@ pub GoesFrom-next : (start s next : Engine) → IsSound next → GoesFrom start 
 GoesFrom-next start s next sound goes some is = rw is (with_one (λ h. IsSound (record s { history = h }) → GoesFrom start (record s { history = h }) × (potential start.wiring h < potential start.wiring s.history)) s.history (next_event s) some of_event (subst IsSound is sound))
   where
     of_event : (e : Event) → next_event s ≡ Some e → IsSound (record s { history = s.history ++ e ∷ [] }) → GoesFrom start (record s { history = s.history ++ e ∷ [] }) × (potential start.wiring (s.history ++ e ∷ []) < potential start.wiring s.history)
-    of_event e some sound = (goes_on start s goes e some, rw (← goes.wiring) (potential-push s.wiring (TakesSome-valid s.wiring sound.valid) s.history e sound.legal))
+    of_event e some sound = (goes_on start s goes e some, rw (← goes.wiring) (potential-push s.wiring (TakesSome-valid s.wiring sound.valid) sound.closed s.history e sound.legal))
 
 -- what is said of the history where nothing comes next
 pub record IsDone (start : Engine) (h : List Event) : Type 0 where
@@ -147,7 +149,7 @@ unfolding next_event
 done start s sound goes is = record {
   finished = record { more = goes.more; begins = goes.begins; ordered = goes.ordered; ended = rw (← goes.wiring, ← goes.closer) is };
   legal = rw (← goes.wiring) sound.legal;
-  complete = rw (← goes.wiring) (is_complete-first s.wiring s.closer s.history sound.legal is);
+  complete = rw (← goes.wiring) (is_complete-first s.wiring sound.closed s.closer s.history sound.legal is);
   quiet = rw (← goes.wiring) (IsQuiet-next s sound is);
 }
 

@@ -2,6 +2,7 @@
 
 ghost use Rattle.std.specs.Prelude.{◌≡◌, ◌≤◌, [], IfOk, IfSome, IfNone, OnErr, OnOk, Some, is_some, length, true};
 ghost use Rattle.ccr_base.specs.Bounds.{most_actors};
+ghost use Rattle.ccr_wiring.specs.Openness.{is_closed};
 ghost use Rattle.ccr_model.specs.Firings.{fired};
 ghost use Rattle.ccr_model.specs.Legal.{IsAllowed, IsLegal, IsQuiet, is_complete};
 ghost use Rattle.ccr_model.specs.Order.{most_attempts, next_attempt, IsFinished};
@@ -57,6 +58,7 @@ fn begin<'w>(alloc: Global, wiring: &'w Wiring) -> Result<(SpotIndices<'w>, Desk
 impl<'w> Engine<'w> {
     /// An engine before all events.
     pub fn start(alloc: Global, wiring: &'w Wiring, closer: ActorNo) -> Result<Self, OutOfMemory>
+        requires closed { is_closed wiring.now ≡ true }
         requires no_poster { length wiring.now.posters ≤ closer }
         requires low { closer ≤ most_actors }
         ensures { IfOk result (λ engine. engine ≡ record { wiring = wiring.now; closer = closer; history = [] }) }
@@ -81,6 +83,7 @@ impl<'w> Engine<'w> {
         closer: ActorNo,
         events: &[Event],
     ) -> Result<Self, OutOfMemory>
+        requires closed { is_closed wiring.now ≡ true }
         requires no_poster { length wiring.now.posters ≤ closer }
         requires low { closer ≤ most_actors }
         requires legal { IsLegal wiring.now events.now }

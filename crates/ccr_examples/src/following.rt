@@ -1,6 +1,7 @@
 //! Actors take turns on one thread, and what is visible of them is written down.
 
-ghost use Rattle.std.specs.Prelude.{◌≡◌, ◌≤◌, IfOk, IfSome};
+ghost use Rattle.std.specs.Prelude.{◌≡◌, ◌≤◌, IfOk, IfSome, true};
+ghost use Rattle.ccr_wiring.specs.Openness.{is_closed};
 ghost use Rattle.ccr_base.specs.Bounds.{most_workers};
 ghost use Rattle.ccr_model.specs.Legal.{IsLegal};
 ghost use Rattle.ccr_runs.specs.EntryRuns.{scheduled};
@@ -21,7 +22,8 @@ pub fn follow(
     workers: u32,
     turns: &[ActorNo],
 ) -> Result<Option<History>, OutOfMemory>
-    requires { workers ≤ most_workers }
+    requires closed { is_closed wiring.now ≡ true }
+    requires workers { workers ≤ most_workers }
     ensures shown { IfOk result (λ seen. IfSome seen (λ history. history ≡ visible (scheduled wiring.now turns.now))) }
     ensures legal { IfOk result (λ seen. IfSome seen (IsLegal wiring.now)) }
 {

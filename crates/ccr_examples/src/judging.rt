@@ -1,6 +1,7 @@
 //! A history is read from its text and judged event by event.
 
-ghost use Rattle.std.specs.Prelude.{◌≡◌, ◌≤◌, [], length, IfNone, IfOk, option_map};
+ghost use Rattle.std.specs.Prelude.{◌≡◌, ◌≤◌, [], length, IfNone, IfOk, option_map, true};
+ghost use Rattle.ccr_wiring.specs.Openness.{is_closed};
 ghost use Rattle.ccr_base.specs.Bounds.{most_bytes};
 ghost use Rattle.ccr_model.specs.Legal.{first_refusal, numbered};
 ghost use Rattle.ccr_examples.specs.Judged.{Tells, IsFound};
@@ -37,6 +38,7 @@ fn first_refused(judge: &mut Judge<'_>, events: &[Event]) -> Result<Option<(u32,
 
 /// What is found of a history of the wiring.
 pub fn judge(alloc: Global, wiring: &Wiring, history: &History) -> Result<HistoryFound, OutOfMemory>
+    requires { is_closed wiring.now ≡ true }
     ensures { IfOk result (Tells wiring.now history.now) }
 {
     let mut judge = Judge::new(alloc, wiring)?;
@@ -55,7 +57,8 @@ pub fn judge_text(
     wiring: &Wiring,
     text: &[u8],
 ) -> Result<HistoryFound, HistoryRefused>
-    requires { length text.now ≤ most_bytes }
+    requires closed { is_closed wiring.now ≡ true }
+    requires length { length text.now ≤ most_bytes }
     ensures { IfOk result (IsFound wiring.now text.now) }
 {
     let read = read_history(alloc, wiring, text)?;

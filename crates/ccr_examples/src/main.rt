@@ -2,7 +2,8 @@
 //! object of one's own is put under a lock that keeps its history. README.md says which file shows what.
 #![tactic(auto)]
 
-ghost use Rattle.std.specs.Prelude.{◌≤◌, length};
+ghost use Rattle.std.specs.Prelude.{◌≤◌, length, ◌≡◌, true};
+ghost use Rattle.ccr_wiring.specs.Openness.{is_closed};
 ghost use Rattle.ccr_base.specs.Bounds.{most_bytes, most_wiring_bytes};
 
 mod following;
@@ -48,7 +49,8 @@ fn tell_run(rt: &HostRuntime, text: &[u8]) -> io::Result<()>
 
 /// Writes what is found of a history.
 fn tell_judgement(rt: &HostRuntime, wiring: &Wiring, text: &[u8]) -> io::Result<()>
-    requires { length text.now ≤ most_bytes }
+    requires closed { is_closed wiring.now ≡ true }
+    requires few { length text.now ≤ most_bytes }
 {
     match judge_text(rt.alloc(), wiring, text) {
         Ok(found) => println!(rt; "{found:?}"),
@@ -63,7 +65,9 @@ fn tell_history(rt: &HostRuntime, wiring: &Wiring, history: &History) -> io::Res
 }
 
 /// Writes what is visible of these turns of posters.
-fn tell_turns(rt: &HostRuntime, wiring: &Wiring, turns: &[u32]) -> io::Result<()> {
+fn tell_turns(rt: &HostRuntime, wiring: &Wiring, turns: &[u32]) -> io::Result<()>
+    requires { is_closed wiring.now ≡ true }
+{
     match memory(follow(rt.alloc(), wiring, 0, turns))? {
         Some(seen) => tell_history(rt, wiring, &seen),
         None => println!(rt; "a turn of no actor"),
@@ -71,7 +75,9 @@ fn tell_turns(rt: &HostRuntime, wiring: &Wiring, turns: &[u32]) -> io::Result<()
 }
 
 /// Judges a whole history of the wiring, one that stops early, and one with a wrong value.
-fn tell_judgements(rt: &HostRuntime, wiring: &Wiring) -> io::Result<()> {
+fn tell_judgements(rt: &HostRuntime, wiring: &Wiring) -> io::Result<()>
+    requires { is_closed wiring.now ≡ true }
+{
     tell_judgement(
         rt,
         wiring,
@@ -82,7 +88,9 @@ fn tell_judgements(rt: &HostRuntime, wiring: &Wiring) -> io::Result<()> {
 }
 
 /// Judges histories of the wiring, and follows turns of its posters.
-fn tell_more(rt: &HostRuntime, wiring: &Wiring) -> io::Result<()> {
+fn tell_more(rt: &HostRuntime, wiring: &Wiring) -> io::Result<()>
+    requires { is_closed wiring.now ≡ true }
+{
     tell_judgements(rt, wiring)?;
     tell_turns(rt, wiring, &[1, 0, 0, 0, 0, 0, 0, 0, 0, 0, 0, 0, 0, 0])
 }

@@ -69,6 +69,8 @@ fn no_parts(alloc: Global) -> Parts {
         arbiters: List::new(alloc),
         domains: List::new(alloc),
         posters: List::new(alloc),
+        open_posters: List::new(alloc),
+        open_handlers: List::new(alloc),
     }
 }
 

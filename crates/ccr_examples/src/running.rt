@@ -1,6 +1,7 @@
 //! A wiring is read from its text and run to its end by one thread, and its history is written.
 
 ghost use Rattle.std.specs.Prelude.{◌≡◌, ◌≤◌, length, true, IfOk};
+ghost use Rattle.ccr_wiring.specs.Openness.{is_closed};
 ghost use Rattle.ccr_base.specs.Bounds.{most_wiring_bytes};
 ghost use Rattle.ccr_model.specs.Legal.{IsLegal, IsQuiet, is_complete};
 ghost use Rattle.ccr_examples.specs.Runs.{IsRunOf, IsRunOfText};
@@ -16,6 +17,7 @@ use std::alloc::Global;
 
 /// The history of a run from its beginning until nothing more is allowed.
 fn run_to_the_end(alloc: Global, wiring: &Wiring) -> Result<History, OutOfMemory>
+    requires { is_closed wiring.now ≡ true }
     ensures legal { IfOk result (IsLegal wiring.now) }
     ensures complete { IfOk result (λ history. is_complete wiring.now history ≡ true) }
     ensures quiet { IfOk result (IsQuiet wiring.now) }
@@ -27,6 +29,7 @@ fn run_to_the_end(alloc: Global, wiring: &Wiring) -> Result<History, OutOfMemory
 
 /// The text of the history of such a run.
 fn run(alloc: Global, wiring: &Wiring) -> Result<List<u8>, OutOfMemory>
+    requires { is_closed wiring.now ≡ true }
     ensures { IfOk result (IsRunOf wiring.now) }
 {
     let history = run_to_the_end(alloc, wiring)?;

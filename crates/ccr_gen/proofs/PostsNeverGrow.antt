@@ -10,6 +10,7 @@ use Rattle.ccr_base.specs.declared.names.MsgId.TheVariants.{Script, Task}
 use Rattle.ccr_base.specs.declared.messages.Msg.{Msg}
 use Rattle.ccr_base.specs.Names.{has_task}
 use Rattle.ccr_wiring.specs.declared.parts.PosterPart.{PosterPart}
+use Rattle.ccr_model.proofs.Closed.{own_line, own_post}
 use Rattle.ccr_model.specs.declared.history.Event.{Event}
 use Rattle.ccr_model.specs.declared.history.Event.TheVariants as events
 use Rattle.ccr_model.specs.Posts.{posts, taken, posts_of_poster, posts_of_task, posts_of_tasks, is_task_message, made_by_poster, task_messages}
@@ -46,7 +47,7 @@ Falls size h e = whole size (h ++ e ∷ []) ≤ whole size h
 post_falls : (size : ℕ) (h : List Event) (m : Msg) (name : MsgId) → m.id ≡ name → refusal_of_post (generated size) h m name ≡ None → potential size (posts h ++ m ∷ []) (taken h) (firings h) ≤ whole size h
 post_falls size h m (Script actor place) named is =
     let line = (refused_not (is_script_line (generated size) h actor place m) _ None is).0 in
-    let parts = both (place == posts_of_poster h actor) (option_map_or (is_post m) (option_and_then (λ (p : PosterPart). slice_get p.posts place) (slice_get (posters size) actor)) false) line in
+    let parts = both (place == posts_of_poster h actor) (option_map_or (is_post m) (option_and_then (λ (p : PosterPart). slice_get p.posts place) (slice_get (posters size) actor)) false) (own_line (generated size) refl h actor place m line) in
     let its = some_of (is_post m) (option_and_then (λ (p : PosterPart). slice_get p.posts place) (slice_get (posters size) actor)) parts.1 in
     let poster = some_then (λ (p : PosterPart). slice_get p.posts place) (slice_get (posters size) actor) its.0 its.1 in
     let next : place ≡ made_by_poster (posts h) actor = grind (arith, nat_tests, parts.0) in
@@ -60,7 +61,7 @@ post_falls size h m (Script actor place) named is =
     omega (arith, a, b, c, d, weighs)
 post_falls size h m (Task t place) named is =
     let line = (refused_not (is_play_post (generated size) h t place m) _ _ is).0 in
-    let parts = both (has_task (running h) t && (place == posts_of_task h t)) (option_map_or (is_post m) (slice_get (play_of (generated size) h t).posts place) false) line in
+    let parts = both (has_task (running h) t && (place == posts_of_task h t)) (option_map_or (is_post m) (slice_get (play_of (generated size) h t).posts place) false) (own_post (generated size) refl h t place m line) in
     let its = some_of (is_post m) (slice_get (play_of (generated size) h t).posts place) parts.1 in
     let counted = (both (has_task (running h) t) (place == posts_of_task h t) parts.0).1 in
     let paid = post_pays size h t place its.0 its.1 in
@@ -140,7 +141,7 @@ few_posts size many h legal =
 
 -- where a task was shed, a complete history has spent the budget
 pub never_shed : (size : ℕ) → size ≤ 10000 → (h : List Event) → IsLegal (generated size) h → is_complete (generated size) h ≡ true → has_shed h ≡ false
-never_shed size many h legal complete = by (has_shed h) (both (are_whole_from h 0 (posters size)) (not (has_shed h) || (posts_of_tasks h == 10000)) complete).1
+never_shed size many h legal complete = by (has_shed h) (both (are_whole_from (generated size) h 0 (posters size)) (not (has_shed h) || (posts_of_tasks h == 10000)) complete).1
   where
     by : (b : Bool) → (not b || (posts_of_tasks h == 10000)) ≡ true → b ≡ false
     by false is = refl

@@ -40,17 +40,17 @@ named : (size : ℕ) → has_dangling (generated size) ≡ false
 named size =
     let each : (k : ℕ) → post_is_dangling (generated size) (sent k) ≡ false = λ k. rw (small_port k) refl in
     let none : (number : ℕ) → list_any (post_is_dangling (generated size)) (script size number) ≡ false = λ number. script_none (post_is_dangling (generated size)) size number each in
-    none_or_false _ (four _ _ _ _ (none 0) (none 1) (none 2) (none 3))
+    none_or_false _ (none_or_false _ (four _ _ _ _ (none 0) (none 1) (none 2) (none 3)))
 
 plain : (size : ℕ) → has_newer (generated size) ≡ false
 plain size =
     let none : (number : ℕ) → list_any (λ (post : Sent). is_long post.value) (script size number) ≡ false = λ number. script_none (λ (post : Sent). is_long post.value) size number (λ k. refl) in
-    four _ _ _ _ (none 0) (none 1) (none 2) (none 3)
+    none_or_false _ (four _ _ _ _ (none 0) (none 1) (none 2) (none 3))
 
 apart : (size : ℕ) → has_repeat (generated size) ≡ false
 apart size =
     let none : (number : ℕ) → list_any post_repeats (script size number) ≡ false = λ number. script_none post_repeats size number (λ k. refl) in
-    none_or_false _ (four _ _ _ _ (none 0) (none 1) (none 2) (none 3))
+    none_or_false _ (none_or_false _ (four _ _ _ _ (none 0) (none 1) (none 2) (none 3)))
 
 one_of_four : (k : ℕ) → length (cond (k % 4 == 0) (sent k ∷ []) []) + length (cond (k % 4 == 1) (sent k ∷ []) []) + length (cond (k % 4 == 2) (sent k ∷ []) []) + length (cond (k % 4 == 3) (sent k ∷ []) []) ≡ 1
 one_of_four k = by (k % 4) (grind arith)

@@ -72,4 +72,6 @@ generated size = record {
   arbiters = pair ∷ batch ∷ keep ∷ [];
   domains = [];
   posters = posters size;
+  open_posters = [];
+  open_handlers = [];
 }

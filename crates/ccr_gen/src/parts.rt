@@ -147,5 +147,7 @@ pub fn parts(alloc: Global, size: u32) -> Result<Parts, OutOfMemory>
         arbiters: arbiters(alloc)?,
         domains: List::new(alloc),
         posters: posters(alloc, size)?,
+        open_posters: List::new(alloc),
+        open_handlers: List::new(alloc),
     })
 }

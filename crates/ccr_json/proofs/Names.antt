@@ -15,7 +15,7 @@ use Rattle.ccr_wiring.specs.declared.parts.SetPart.{SetPart}
 use Rattle.ccr_wiring.specs.declared.parts.CausePart.{CausePart}
 use Rattle.ccr_wiring.specs.declared.parts.HandlerPart.{HandlerPart}
 use Rattle.ccr_wiring.specs.declared.parts.PosterPart.{PosterPart}
-use Rattle.ccr_wiring.specs.Groups.{is_receive, is_one_named, has_strange_group, is_misgrouped}
+use Rattle.ccr_wiring.specs.Groups.{is_receive, is_one_named, has_strange_group, is_misgrouped, has_scripted}
 use Rattle.ccr_wiring.specs.Names as names
 use Rattle.ccr_wiring.specs.Valid.{IsValid}
 use Rattle.ccr_wiring.proofs.Lists.{neither}
@@ -97,7 +97,7 @@ plain_names parts valid =
     let causes = halves three (names.cause_names parts.causes) handlers.0 in
     let sets = halves two (names.set_names parts.sets) causes.0 in
     let ports = halves (names.queue_names parts.queues) parts.ports sets.0 in
-    let all = arbiters_plain parts.arbiters none.groups arbiters.1 in
+    let all = arbiters_plain parts.arbiters (neither (list_any is_misgrouped parts.arbiters) (has_scripted parts) none.groups).0 arbiters.1 in
     record {
       queues = of_parts (λ (part : QueuePart). part.name) parts.queues ports.0;
       ports = all_plain parts.ports ports.1;

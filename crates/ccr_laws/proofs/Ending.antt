@@ -8,6 +8,7 @@ use Rattle.ccr_base.specs.declared.names.MsgId.{MsgId}
 use Rattle.ccr_base.specs.declared.messages.Msg.{Msg}
 use Rattle.ccr_base.specs.declared.names.Spot.{Spot}
 use Rattle.ccr_wiring.specs.declared.parts.Parts.{Parts}
+use Rattle.ccr_wiring.specs.Openness.{is_closed}
 use Rattle.ccr_wiring.specs.Wirings.{Placement}
 use Rattle.ccr_model.specs.declared.history.Event.{Event}
 use Rattle.ccr_model.specs.declared.history.Event.TheVariants.{Post, Fire, Admit, Put, Start, End}
@@ -163,8 +164,8 @@ pub fired-length : (fs : List Firing) → length (map (λ (f : Firing). f.task) 
 fired-length fs = length-map fs (λ (f : Firing). f.task)
 
 -- a legal history has at most six events for each message that may be posted
-pub few_events : (w : Parts) → TakesSome w → (h : List Event) → IsLegal w h → length h ≤ event_bound w
+pub few_events : (w : Parts) → TakesSome w → is_closed w ≡ true → (h : List Event) → IsLegal w h → length h ≤ event_bound w
 unfolding event_bound
-few_events w some h legal =
+few_events w some closed h legal =
     let few = AreFew-legal w some h legal in
-    omega (arith, all_kinds h, few.fires, few.admits.few, few.puts.few, few.starts.few, few.ends.few, fired-length (firings h), few_posts w h legal)
+    omega (arith, all_kinds h, few.fires, few.admits.few, few.puts.few, few.starts.few, few.ends.few, fired-length (firings h), few_posts w closed h legal)

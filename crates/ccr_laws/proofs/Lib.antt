@@ -11,6 +11,7 @@ pub mod StartOrder
 pub mod Exclusion
 pub mod AfterTeardown
 pub mod ScriptLines
+pub mod OpenPosts
 pub mod HeldTaken
 pub mod FewCut
 pub mod EachGoesOnOnce

@@ -7,6 +7,7 @@ use Rattle.ccr_base.specs.declared.patterns.Pattern.TheVariants.{Slots, Gather}
 use Rattle.ccr_wiring.specs.declared.parts.Parts.{Parts}
 use Rattle.ccr_wiring.specs.Limits.{posts_in_all}
 use Rattle.ccr_wiring.specs.Valid.{IsValid, HasQueues, IsPatternFilled}
+use Rattle.ccr_wiring.specs.Openness.{is_closed}
 use Rattle.ccr_wiring.proofs.Soundness.{sound}
 use Rattle.ccr_model.specs.declared.history.Event.{Event}
 use Rattle.ccr_model.specs.Legal.{IsLegal}
@@ -37,7 +38,7 @@ pub record HasFewParts (w : Parts) : Type 0 where
   pub arbiters : length w.arbiters ≤ 256
   pub posters : length w.posters ≤ 16
   pub lines : posts_in_all w.posters ≤ 10000
-  pub budget : w.budget ≤ 10000
+  pub budget : is_closed w ≡ true → w.budget ≤ 10000
 
 pub HasFewParts-valid : (w : Parts) → IsValid w → HasFewParts w
 HasFewParts-valid w valid =
@@ -50,12 +51,12 @@ HasFewParts-valid w valid =
       arbiters = small.arbiters;
       posters = small.posters;
       lines = small.posts;
-      budget = small.budget;
+      budget = λ closed. small.budget closed;
     }
 
-pub event_bound-valid : (w : Parts) → IsValid w → event_bound w ≤ 120000
+pub event_bound-valid : (w : Parts) → IsValid w → is_closed w ≡ true → event_bound w ≤ 120000
 unfolding event_bound
-event_bound-valid w valid = let few = HasFewParts-valid w valid in omega (arith, few.lines, few.budget)
+event_bound-valid w valid closed = let few = HasFewParts-valid w valid in omega (arith, few.lines, few.budget closed)
 
-pub few_events-valid : (w : Parts) → IsValid w → (h : List Event) → IsLegal w h → length h ≤ 120000
-few_events-valid w valid h legal = omega (arith, few_events w (TakesSome-valid w valid) h legal, event_bound-valid w valid)
+pub few_events-valid : (w : Parts) → IsValid w → is_closed w ≡ true → (h : List Event) → IsLegal w h → length h ≤ 120000
+few_events-valid w valid closed h legal = omega (arith, few_events w (TakesSome-valid w valid) closed h legal, event_bound-valid w valid closed)

@@ -59,6 +59,8 @@ wiring = record {
   arbiters = arbiters;
   domains = [];
   posters = record { name = []; posts = scripts } ∷ [];
+  open_posters = [];
+  open_handlers = [];
 }
 
 -- an exclusive task is suspended while a concurrent one waits, which a teardown cuts

@@ -1,5 +1,5 @@
 -- What a law is about: each legal history of a wiring.
-use Rattle.std.specs.Prelude.{◌≡◌, ℕ, true, false, List, [], ◌∷◌, Some}
+use Rattle.std.specs.Prelude.{◌≡◌, ℕ, true, false, List, [], ◌∷◌, Some, None}
 use Rattle.std.specs.List.{slice_get}
 use Rattle.ccr_base.specs.declared.names.MsgId.{MsgId}
 use Rattle.ccr_base.specs.declared.names.Spot.{Spot}
@@ -8,6 +8,7 @@ use Rattle.ccr_base.specs.Names.{has_task}
 use Rattle.ccr_wiring.specs.declared.parts.Parts.{Parts}
 use Rattle.ccr_wiring.specs.declared.parts.ArbiterPart.{ArbiterPart}
 use Rattle.ccr_wiring.specs.declared.parts.PosterPart.{PosterPart}
+use Rattle.ccr_wiring.specs.Openness.{open_poster}
 use Rattle.ccr_wiring.specs.Valid.{IsValid, HasGroups}
 use Rattle.ccr_model.specs.declared.history.Event.{Event}
 use Rattle.ccr_model.specs.declared.history.Event.TheVariants.{Fire}
@@ -35,9 +36,9 @@ OfFirings history law = (past : List Event) (task : TaskId) (spot : Spot) (messa
 abbrev pub OfArbiters : Parts → (ℕ → ArbiterPart → Type 0) → Type 0
 OfArbiters wiring law = (number : ℕ) (arbiter : ArbiterPart) → slice_get wiring.arbiters number ≡ Some arbiter → law number arbiter
 
--- it holds of each poster of the wiring and its number
-abbrev pub OfPosters : Parts → (ℕ → PosterPart → Type 0) → Type 0
-OfPosters wiring law = (number : ℕ) (poster : PosterPart) → slice_get wiring.posters number ≡ Some poster → law number poster
+-- it holds of each poster of the wiring that posts its script, and its number
+abbrev pub OfScripted : Parts → (ℕ → PosterPart → Type 0) → Type 0
+OfScripted wiring law = (number : ℕ) (poster : PosterPart) → slice_get wiring.posters number ≡ Some poster → open_poster wiring number ≡ None → law number poster
 
 -- it holds of each wiring whose branches have the groups that their arbiters may have
 abbrev pub OfGrouped : (Parts → Type 0) → Type 0

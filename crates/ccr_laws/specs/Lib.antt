@@ -6,4 +6,5 @@ pub mod OneFate
 pub mod Drops
 pub mod Queues
 pub mod Scripts
+pub mod Open
 pub mod Potential

@@ -6,6 +6,7 @@ mod fates;
 mod firings;
 mod interleaves;
 mod lengths;
+mod open;
 mod queues;
 mod scripts;
 
@@ -21,5 +22,6 @@ pub use interleaves::{
     roots_have_one_segment_at_work, tasks_at_work_have_admitted_roots,
 };
 pub use lengths::{histories_are_short, valid_histories_are_short};
+pub use open::{open_posters_keep_their_ports, open_tasks_post_while_they_run};
 pub use queues::{earlier_puts_start_earlier, tasks_start_in_the_order_of_their_puts};
 pub use scripts::posters_follow_their_scripts;

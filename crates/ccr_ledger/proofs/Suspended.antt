@@ -27,6 +27,7 @@ use Rattle.ccr_model.proofs.Ending.{RunningFacts-allowed}
 use Rattle.ccr_base.proofs.Options.{some-below}
 use Rattle.ccr_base.proofs.TwoDigits.{same_digits}
 use Rattle.ccr_model.proofs.PlayPast.{play_at-past}
+use Rattle.ccr_model.proofs.Closed.{yield_end}
 use Rattle.ccr_model.proofs.PostNames.{refused_not}
 use Rattle.ccr_model.proofs.Suspending.{ResumeFacts, ResumeFacts-allowed, suspended-other, suspended-branch, suspended-elsewhere, suspended-here, same_site, end_fired, suspended-same}
 use Rattle.ccr_model.proofs.WhoWasPut.{ArePlaced, ArePlaced-legal}
@@ -112,7 +113,7 @@ yields_early w valid h t f is allowed = of_test (nat_lt (segment_of f.spot) 16) 
     as_played =
         let a = refused_not (has_task (running h) t) _ _ allowed in
         let b = refused_not (may_end w h t ends.Yield) _ None a.1 in
-        ap (λ (p : Play). ends_so ends.Yield p.end) (sym played) ∙ (both (not (has_post_left w h t)) (ends_so ends.Yield (play_of w h t).end) b.0).1
+        ap (λ (p : Play). ends_so ends.Yield p.end) (sym played) ∙ (both (not (has_post_left w h t)) (ends_so ends.Yield (play_of w h t).end) (yield_end w h t b.0)).1
 
     of_test : (b : Bool) → nat_lt (segment_of f.spot) 16 ≡ b → segment_of f.spot < 16
     of_test true low = ltb-true (segment_of f.spot) 16 low

@@ -22,6 +22,7 @@ use Rattle.ccr_wiring.specs.declared.parts.Parts.{Parts}
 use Rattle.ccr_wiring.specs.Wirings.{Placement, placement, placements, policy_of, site_port, branch_of}
 use Rattle.ccr_wiring.specs.Repeats.{slot_ports}
 use Rattle.ccr_wiring.specs.Spots.{pattern_ports}
+use Rattle.ccr_wiring.specs.Openness.{open_handler}
 use Rattle.ccr_wiring.specs.Valid.{IsValid}
 use Rattle.ccr_wiring.proofs.Soundness.{sound}
 use Rattle.ccr_model.specs.declared.history.Event.{Event}
@@ -32,7 +33,7 @@ use Rattle.ccr_model.specs.Tasks.{is_teardown, is_concurrent, waiting, running, 
 use Rattle.ccr_model.specs.Live.{is_none_of, is_live, is_live_in, has_room, has_room_in}
 use Rattle.ccr_model.specs.Selection.{names_of, selection_of_slots, is_selection, is_selection_of, are_oldest, engine_selection_of, engine_selection, oldest}
 use Rattle.ccr_model.specs.Enough.{has_enough, can_take}
-use Rattle.ccr_model.specs.Rules.{cuts_at, may_admit, is_concurrent_task, drop_by, drop_at, has_budget}
+use Rattle.ccr_model.specs.Rules.{cuts_at, may_admit, is_concurrent_task, drop_by, drop_at, has_budget, open_ports}
 use Rattle.ccr_model.specs.Legal.{IsLegal}
 use Rattle.ccr_base.proofs.Options.{some-below}
 use Rattle.ccr_model.proofs.Members.{found_among}
@@ -44,7 +45,7 @@ use Rattle.ccr_base.proofs.Booleans.{not_not}
 use Rattle.ccr_ledger.specs.Rows.{row}
 use Rattle.ccr_ledger.specs.declared.cards.Card.{Card}
 use Rattle.ccr_ledger.specs.Books.{Books, number}
-use Rattle.ccr_ledger.specs.Asked.{lives, group_lives, room, queue_has_room, can_choose, selection_at, are_selected, cuts, may_admit_task, may_admit_card, drops, play_in, made_in, budget_lasts}
+use Rattle.ccr_ledger.specs.Asked.{lives, group_lives, room, queue_has_room, can_choose, selection_at, are_selected, cuts, may_admit_task, may_admit_card, drops, play_in, made_in, budget_lasts, open_ports_kept}
 use Rattle.ccr_ledger.specs.Kept.{Keeps, card_of}
 
 -- what is asked of the ports of a pattern is the same where they hold the same
@@ -211,6 +212,13 @@ module _ (w : Parts) (valid : IsValid w) (h : List Event) (legal : IsLegal w h) 
       of_firing : (o : Option Firing) → firing_named h t ≡ o → option_map_or (λ (card : Card). card.play) (option_map (card_of w h t) o) no_play ≡ play_of w h t
       of_firing None at = rw at refl
       of_firing (Some f) at = refl
+
+  pub open_ports_told : (t : TaskId) → open_ports_kept w b t ≡ open_ports w h t
+  open_ports_told t = rw (keeps.tasks.cards t) (of_firing (firing_named h t) refl)
+    where
+      of_firing : (o : Option Firing) → firing_named h t ≡ o → option_and_then (λ (card : Card). option_and_then (λ (s : Placement). open_handler w s.branch.handler) (placement w (branch_of card.spot))) (option_map (card_of w h t) o) ≡ open_ports w h t
+      of_firing None at = rw at refl
+      of_firing (Some f) at = rw at refl
 
   pub made_told : (t : TaskId) → has_task (running h) t ≡ true → made_in b t ≡ posts_of_task h t
   made_told t runs =

@@ -14,7 +14,8 @@ use Rattle.ccr_base.specs.declared.policies.Policy.TheVariants.{Throttle}
 use Rattle.ccr_base.specs.Names.{same_task}
 use Rattle.ccr_handler.specs.declared.segments.Play.{Play}
 use Rattle.ccr_wiring.specs.declared.parts.Parts.{Parts}
-use Rattle.ccr_wiring.specs.Wirings.{Placement, placement, site_port, policy_of}
+use Rattle.ccr_wiring.specs.Openness.{open_handler}
+use Rattle.ccr_wiring.specs.Wirings.{Placement, placement, site_port, policy_of, branch_of}
 use Rattle.ccr_model.specs.TaskData.{no_play}
 use Rattle.ccr_model.specs.Tasks.{is_teardown}
 use Rattle.ccr_model.specs.Live.{is_none_of}
@@ -110,6 +111,11 @@ is_busy books actor = list_any (λ (r : Runner). r.actor == actor) books.running
 -- rule 15: whether the task runs
 abbrev pub runs : Books → TaskId → Bool
 runs books task = list_any (λ (r : Runner). same_task r.task task) books.running
+
+-- the ports to which the task may post from outside, where its handler is open
+abbrev pub open_ports_kept : Parts → Books → TaskId → Option (List ℕ)
+open_ports_kept wiring books task =
+    option_and_then (λ (card : Card). option_and_then (λ (s : Placement). open_handler wiring s.branch.handler) (placement wiring (branch_of card.spot))) (card_at books.tasks task)
 
 -- the play of the task, and how many posts of it were made
 abbrev pub play_in : Books → TaskId → Play

@@ -8,7 +8,7 @@ ghost use Rattle.ccr_ledger.specs.Rows.{row};
 ghost use Rattle.ccr_model.specs.Selection.{names_of};
 ghost use Rattle.ccr_ledger.specs.declared.cards.Card.{Card};
 ghost use Rattle.ccr_ledger.specs.Books.{card_at, number};
-ghost use Rattle.ccr_ledger.specs.Asked.{may_admit_card, are_selected, budget_lasts, can_choose, selection_at, cuts, drops, may_admit_task, group_lives, has_fired, has_more, is_busy, is_ready, is_ready_stage, lives, queue_has_room, queued_first, room, runs, unfinished, waits_first};
+ghost use Rattle.ccr_ledger.specs.Asked.{may_admit_card, are_selected, budget_lasts, can_choose, selection_at, cuts, drops, may_admit_task, group_lives, has_fired, has_more, is_busy, is_ready, is_ready_stage, lives, open_ports_kept, queue_has_room, queued_first, room, runs, unfinished, waits_first};
 
 use crate::counts::{flag, number};
 use crate::named_selections::{are_oldest, are_selected_by};
@@ -20,7 +20,7 @@ use ccr_base::{
     is_teardown,
 };
 use ccr_model::Event;
-use ccr_wiring::Wiring;
+use ccr_wiring::{Wiring, branch_of};
 use std::alloc::Global;
 
 /// Whether a task in the stage may be put.
@@ -370,6 +370,15 @@ impl Ledger {
         ensures { result ≡ runs self.now task }
     {
         self.running.iter().any(|runner| runner.task == task)
+    }
+
+    /// The ports to which the task may post from outside, where its handler is open.
+    pub fn open_ports<'w>(&self, wiring: &'w Wiring, task: TaskId) -> Option<&'w [PortNo]>
+        ensures { option_map (λ ports. ports.now) result ≡ open_ports_kept wiring.now self.now task }
+    {
+        let card = self.card(task)?;
+        let placement = wiring.placement(branch_of(card.spot))?;
+        wiring.open_handler(placement.branch.handler)
     }
 
     /// Whether a post of the task's play is left.

@@ -144,6 +144,16 @@ impl KeptPlay {
         }
     }
 
+    /// Its causes at the end.
+    pub fn own_causes(&self) -> &[CauseNo]
+        ensures { result.now ≡ self.now.causes }
+    {
+        match &self.compact {
+            CompactPlay::Full(play) => play.causes.as_slice(),
+            _ => &[],
+        }
+    }
+
     /// Its causes at the end, as a list of their own.
     pub(crate) fn causes(&self, alloc: Global) -> Result<List<CauseNo>, OutOfMemory>
         ensures { IfOk result (λ causes. causes ≡ self.now.causes) }

@@ -3,6 +3,7 @@ pub mod WorkedRuns
 mod WorkedTasks
 mod WorkedDomains
 mod WrongEvents
+mod WorkedOpen
 pub mod Members
 pub mod Pigeons
 pub mod SameLists
@@ -15,6 +16,8 @@ pub mod TakenOnce
 pub mod TaskSteps
 pub mod Stable
 pub mod FiredTasks
+pub mod Closed
+pub mod OpenPlays
 pub mod QuietAllowsNone
 pub mod PlacementDomains
 pub mod Allowing

@@ -13,11 +13,13 @@ use Rattle.ccr_base.specs.declared.messages.Msg.{Msg}
 use Rattle.ccr_wiring.specs.declared.parts.Parts.{Parts}
 use Rattle.ccr_wiring.specs.declared.parts.PosterPart.{PosterPart}
 use Rattle.ccr_wiring.specs.Limits.{posts_in_all}
+use Rattle.ccr_wiring.specs.Openness.{is_closed}
 use Rattle.ccr_model.specs.declared.history.Event.{Event}
 use Rattle.ccr_model.specs.declared.history.Event.TheVariants.{Post, Fire, Admit, Put, Start, End}
 use Rattle.ccr_model.specs.Posts.{posts, is_script_of, is_task_message, posts_of_poster, task_messages, made_by_poster}
 use Rattle.ccr_model.specs.Rules.{refusal_of_post, is_post, is_script_line, is_play_post, has_budget}
 use Rattle.ccr_model.specs.Legal.{IsAllowed, IsLegal}
+use Rattle.ccr_model.proofs.Closed.{own_line}
 use Rattle.ccr_model.proofs.PostNames.{along, refused_not, made_by_poster-push}
 use Rattle.ccr_model.proofs.OneMoreEvent.{posts-push}
 use Rattle.ccr_base.proofs.Options.{some_of, some_then, some-below}
@@ -70,9 +72,9 @@ record HasLine (w : Parts) (ms : List Msg) (a : ℕ) : Type 0 where
   at : slice_get w.posters a ≡ Some poster
   left : made_by_poster ms a < length poster.posts
 
-has_line : (w : Parts) (h : List Event) (a k : ℕ) (m : Msg) → is_script_line w h a k m ≡ true → HasLine w (posts h) a
-has_line w h a k m is =
-    let parts = both (k == posts_of_poster h a) (option_map_or (is_post m) (option_and_then (λ (p : PosterPart). slice_get p.posts k) (slice_get w.posters a)) false) is in
+has_line : (w : Parts) → is_closed w ≡ true → (h : List Event) (a k : ℕ) (m : Msg) → is_script_line w h a k m ≡ true → HasLine w (posts h) a
+has_line w closed h a k m is =
+    let parts = both (k == posts_of_poster h a) (option_map_or (is_post m) (option_and_then (λ (p : PosterPart). slice_get p.posts k) (slice_get w.posters a)) false) (own_line w closed h a k m is) in
     let sent = some_of (is_post m) (option_and_then (λ (p : PosterPart). slice_get p.posts k) (slice_get w.posters a)) parts.1 in
     let poster = some_then (λ (p : PosterPart). slice_get p.posts k) (slice_get w.posters a) sent.0 sent.1 in
     let below = some-below poster.0.posts k sent.0 poster.2 in
@@ -113,24 +115,24 @@ posted_by_task w ms m t k is left known =
       whole = λ n p at. (let own : is_script_of n m.id ≡ false = rw is refl in rw (made_by_poster-push ms m n, own) (omega (arith, known.whole n p at)));
     }
 
-posted_next : (w : Parts) (h : List Event) (m : Msg) (name : MsgId) → m.id ≡ name → refusal_of_post w h m name ≡ None → ArePosted w (posts h) → ArePosted w (posts h ++ m ∷ [])
-posted_next w h m (Script a k) is allowed known = posted_line w (posts h) m a k is (has_line w h a k m (refused_not (is_script_line w h a k m) _ None allowed).0) known
-posted_next w h m (Task t k) is allowed known =
+posted_next : (w : Parts) → is_closed w ≡ true → (h : List Event) (m : Msg) (name : MsgId) → m.id ≡ name → refusal_of_post w h m name ≡ None → ArePosted w (posts h) → ArePosted w (posts h ++ m ∷ [])
+posted_next w closed h m (Script a k) is allowed known = posted_line w (posts h) m a k is (has_line w closed h a k m (refused_not (is_script_line w h a k m) _ None allowed).0) known
+posted_next w closed h m (Task t k) is allowed known =
     let a = refused_not (is_play_post w h t k m) _ _ allowed in
     let b = refused_not (has_budget w h) _ None a.1 in
     posted_by_task w (posts h) m t k is (grind (arith, nat_tests, b.0)) known
 
-ArePosted_kept : (w : Parts) (h : List Event) (e : Event) → ArePosted w (posts h) → IsAllowed w h e → ArePosted w (posts (h ++ e ∷ []))
-ArePosted_kept w h (Post m) known allowed = rw posts-push (posted_next w h m m.id refl allowed known)
-ArePosted_kept w h (Fire t s ms cs) known allowed = rw (posts-push, append-nil) known
-ArePosted_kept w h (Admit t) known allowed = rw (posts-push, append-nil) known
-ArePosted_kept w h (Put t d) known allowed = rw (posts-push, append-nil) known
-ArePosted_kept w h (Start t a) known allowed = rw (posts-push, append-nil) known
-ArePosted_kept w h (End t how) known allowed = rw (posts-push, append-nil) known
+ArePosted_kept : (w : Parts) → is_closed w ≡ true → (h : List Event) (e : Event) → ArePosted w (posts h) → IsAllowed w h e → ArePosted w (posts (h ++ e ∷ []))
+ArePosted_kept w closed h (Post m) known allowed = rw posts-push (posted_next w closed h m m.id refl allowed known)
+ArePosted_kept w closed h (Fire t s ms cs) known allowed = rw (posts-push, append-nil) known
+ArePosted_kept w closed h (Admit t) known allowed = rw (posts-push, append-nil) known
+ArePosted_kept w closed h (Put t d) known allowed = rw (posts-push, append-nil) known
+ArePosted_kept w closed h (Start t a) known allowed = rw (posts-push, append-nil) known
+ArePosted_kept w closed h (End t how) known allowed = rw (posts-push, append-nil) known
 
 -- each legal history keeps to the scripts and the budget
-pub ArePosted-legal : (w : Parts) (h : List Event) → IsLegal w h → ArePosted w (posts h)
-ArePosted-legal w h legal = along w (λ g. ArePosted w (posts g)) (ArePosted_kept w) (record { lines = rw (lines_left_first 0 w.posters) (omega arith); budget = omega arith; whole = λ n p at. omega arith }) h legal
+pub ArePosted-legal : (w : Parts) → is_closed w ≡ true → (h : List Event) → IsLegal w h → ArePosted w (posts h)
+ArePosted-legal w closed h legal = along w (λ g. ArePosted w (posts g)) (ArePosted_kept w closed) (record { lines = rw (lines_left_first 0 w.posters) (omega arith); budget = omega arith; whole = λ n p at. omega arith }) h legal
 
-pub few_posts : (w : Parts) (h : List Event) → IsLegal w h → length (posts h) ≤ posts_in_all w.posters + w.budget
-few_posts w h legal = let known = ArePosted-legal w h legal in omega (arith, known.lines, known.budget, both_kinds (posts h))
+pub few_posts : (w : Parts) → is_closed w ≡ true → (h : List Event) → IsLegal w h → length (posts h) ≤ posts_in_all w.posters + w.budget
+few_posts w closed h legal = let known = ArePosted-legal w closed h legal in omega (arith, known.lines, known.budget, both_kinds (posts h))

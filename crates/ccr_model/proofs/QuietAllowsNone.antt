@@ -30,6 +30,8 @@ use Rattle.ccr_model.specs.Rules.{refusal_of_post, is_post, is_script_line, is_n
 use Rattle.ccr_model.specs.Legal.{IsAllowed, IsQuiet}
 use Rattle.ccr_model.specs.Order.{first, post_from, script_post, fire_at, fire_from, admit_first, admit_from, put_first, run_task, start_from}
 use Rattle.ccr_wiring.specs.Valid.{HasQueues}
+use Rattle.ccr_wiring.specs.Openness.{is_closed}
+use Rattle.ccr_model.proofs.Closed.{own_line}
 use Rattle.ccr_model.proofs.PostNames.{refused_not}
 use Rattle.ccr_model.proofs.PlacementDomains.{placement-within}
 use Rattle.ccr_base.proofs.Options.{some_of, some_then, some_map, none_or, none_map, no_head, no_some}
@@ -48,9 +50,9 @@ post_none h (q ∷ ps) n (suc k) p is at =
     let parts = none_or (option_map (script_post n (posts_of_poster h n)) (slice_get q.posts (posts_of_poster h n))) (post_from h (n + 1) ps) is in
     grind (arith, post_none h ps (n + 1) k p parts.1 at)
 
-no_script : (w : Parts) (h : List Event) (a k : ℕ) (m : Msg) → post_from h 0 w.posters ≡ None → is_script_line w h a k m ≡ true → ⊥
-no_script w h a k m none is =
-    let parts = both (k == posts_of_poster h a) (option_map_or (is_post m) (option_and_then (λ (p : PosterPart). slice_get p.posts k) (slice_get w.posters a)) false) is in
+no_script : (w : Parts) → is_closed w ≡ true → (h : List Event) (a k : ℕ) (m : Msg) → post_from h 0 w.posters ≡ None → is_script_line w h a k m ≡ true → ⊥
+no_script w closed h a k m none is =
+    let parts = both (k == posts_of_poster h a) (option_map_or (is_post m) (option_and_then (λ (p : PosterPart). slice_get p.posts k) (slice_get w.posters a)) false) (own_line w closed h a k m is) in
     let sent = some_of (is_post m) (option_and_then (λ (p : PosterPart). slice_get p.posts k) (slice_get w.posters a)) parts.1 in
     let poster = some_then (λ (p : PosterPart). slice_get p.posts k) (slice_get w.posters a) sent.0 sent.1 in
     let nothing = post_none h w.posters 0 a poster.0 none poster.1 in
@@ -237,26 +239,26 @@ NoneFirst-first w c h is =
     let f = none_or (option_map (run_task w h) (slice_get (running h) 0)) _ e.1 in
     record { post = a.0; fire = b.0; admit = d.0; put_next = e.0; run = no_head (running h) (none_map (run_task w h) (slice_get (running h) 0) f.0); start = f.1 }
 
-no_post : (w : Parts) (h : List Event) (m : Msg) (name : MsgId) → post_from h 0 w.posters ≡ None → running h ≡ [] → refusal_of_post w h m name ≡ None → ⊥
-no_post w h m (Script a k) none run allowed = no_script w h a k m none (refused_not (is_script_line w h a k m) _ None allowed).0
-no_post w h m (Task t k) none run allowed =
+no_post : (w : Parts) → is_closed w ≡ true → (h : List Event) (m : Msg) (name : MsgId) → post_from h 0 w.posters ≡ None → running h ≡ [] → refusal_of_post w h m name ≡ None → ⊥
+no_post w closed h m (Script a k) none run allowed = no_script w closed h a k m none (refused_not (is_script_line w h a k m) _ None allowed).0
+no_post w closed h m (Task t k) none run allowed =
     let r = refused_not (is_play_post w h t k m) _ _ allowed in
     let parts = both (has_task (running h) t && _) _ r.0 in
     let runs = both (has_task (running h) t) _ parts.0 in
     grind (arith, run, runs.0)
 
-quiet_parts : (w : Parts) (c : ℕ) (h : List Event) → HasQueues w → NoneFirst w c h → IsQuiet w h
-quiet_parts w c h queues none (Post m) allowed = no_post w h m m.id none.post none.run allowed
-quiet_parts w c h queues none (Fire t s ms cs) allowed = no_fire w c h t s ms cs none.fire allowed
-quiet_parts w c h queues none (Admit t) allowed = no_admit w h t none.admit allowed
-quiet_parts w c h queues none (Put t d) allowed = no_put w h t d none.put_next allowed
-quiet_parts w c h queues none (Start t a) allowed = no_start w c h t a queues none.start allowed
-quiet_parts w c h queues none (End t how) allowed =
+quiet_parts : (w : Parts) (c : ℕ) (h : List Event) → HasQueues w → is_closed w ≡ true → NoneFirst w c h → IsQuiet w h
+quiet_parts w c h queues closed none (Post m) allowed = no_post w closed h m m.id none.post none.run allowed
+quiet_parts w c h queues closed none (Fire t s ms cs) allowed = no_fire w c h t s ms cs none.fire allowed
+quiet_parts w c h queues closed none (Admit t) allowed = no_admit w h t none.admit allowed
+quiet_parts w c h queues closed none (Put t d) allowed = no_put w h t d none.put_next allowed
+quiet_parts w c h queues closed none (Start t a) allowed = no_start w c h t a queues none.start allowed
+quiet_parts w c h queues closed none (End t how) allowed =
     let r = refused_not (has_task (running h) t) _ _ allowed in
     grind (arith, none.run, r.0)
 
-pub IsQuiet-first : (w : Parts) (c : ℕ) (h : List Event) → HasQueues w → first w c h ≡ None → IsQuiet w h
-IsQuiet-first w c h queues is = quiet_parts w c h queues (NoneFirst-first w c h is)
+pub IsQuiet-first : (w : Parts) (c : ℕ) (h : List Event) → HasQueues w → is_closed w ≡ true → first w c h ≡ None → IsQuiet w h
+IsQuiet-first w c h queues closed is = quiet_parts w c h queues closed (NoneFirst-first w c h is)
 
 -- and where none is allowed, none comes that would have to be
 pub none_if_quiet : (w : Parts) (h : List Event) → IsQuiet w h → (o : Option Event) → IfSome o (IsAllowed w h) → o ≡ None

@@ -1,14 +1,19 @@
 -- Legal, complete, quiet and covered histories.
-use Rattle.std.specs.Prelude.{◌≡◌, ℕ, ◌+◌, Bool, true, ◌==◌, ◌&&◌, ◌||◌, not, nat_le, List, [], ◌∷◌, ◌++◌, length, Option, Some, None}
+use Rattle.std.specs.Prelude.{◌≡◌, ℕ, ◌+◌, Bool, true, false, ◌==◌, ◌&&◌, ◌||◌, not, nat_le, List, [], ◌∷◌, ◌++◌, length, Option, Some, None}
 use Rattle.std.specs.List.{list_any}
+use Rattle.std.specs.Option.{is_some}
 use Rattle.ccr_wiring.specs.declared.parts.Parts.{Parts}
 use Rattle.ccr_wiring.specs.declared.parts.PosterPart.{PosterPart}
+use Rattle.ccr_base.specs.declared.names.MsgId.{MsgId}
+use Rattle.ccr_base.specs.declared.names.MsgId.TheVariants.{Script, Task}
+use Rattle.ccr_wiring.specs.Openness.{open_poster}
 use Rattle.ccr_model.specs.declared.history.Event.{Event}
+use Rattle.ccr_model.specs.declared.history.Event.TheVariants.{Post, Start, End}
 use Rattle.ccr_model.specs.declared.rule.Rule.{Rule}
 use Rattle.ccr_model.specs.Counts.{is_shed}
 use Rattle.ccr_model.specs.Posts.{posts_of_poster, posts_of_tasks}
 use Rattle.ccr_model.specs.Tasks.{count_unfinished}
-use Rattle.ccr_model.specs.Rules.{number_of, refusal}
+use Rattle.ccr_model.specs.Rules.{number_of, refusal, open_ports}
 
 -- no rule refuses the event after the history
 abbrev pub IsAllowed : Parts → List Event → Event → Type 0
@@ -27,6 +32,22 @@ IsLegal wiring history = IsLegalAfter wiring [] history
 abbrev pub IsQuiet : Parts → List Event → Type 0
 IsQuiet wiring history = (event : Event) → IsAllowed wiring history event → ⊥
 
+-- whether the post of this name is made under an open poster's name, or by a task whose handler is open
+abbrev pub is_posted_outside : Parts → List Event → MsgId → Bool
+is_posted_outside wiring history (Script actor index) = is_some (open_poster wiring actor)
+is_posted_outside wiring history (Task task index) = is_some (open_ports wiring history task)
+
+-- whether somebody outside makes the event: a post under an open poster's name; the start, a post or the end of a task whose handler is open
+abbrev pub is_from_outside : Parts → List Event → Event → Bool
+is_from_outside wiring history (Post message) = is_posted_outside wiring history message.id
+is_from_outside wiring history (Start task actor) = is_some (open_ports wiring history task)
+is_from_outside wiring history (End task how) = is_some (open_ports wiring history task)
+is_from_outside wiring history _ = false
+
+-- no event is allowed after the history but what somebody outside makes
+abbrev pub IsIdle : Parts → List Event → Type 0
+IsIdle wiring history = (event : Event) → is_from_outside wiring history event ≡ false → IsAllowed wiring history event → ⊥
+
 -- the index and the rule of an event that isn't allowed, or else what is said of later ones
 abbrev pub first_or : Option Rule → ℕ → Option (ℕ × Rule) → Option (ℕ × Rule)
 first_or answer index later = elim answer [ None ↦ later | Some rule ↦ Some (index, rule) ]
@@ -44,14 +65,15 @@ numbered refusal = (refusal.0, number_of refusal.1)
 abbrev pub has_shed : List Event → Bool
 has_shed history = list_any is_shed history
 
--- each of the posters, of which the first has this number, has made as many posts as its script has
-abbrev pub are_whole_from : List Event → ℕ → List PosterPart → Bool
-are_whole_from history number [] = true
-are_whole_from history number (poster ∷ posters) = (posts_of_poster history number == length poster.posts) && are_whole_from history (number + 1) posters
+-- each of the posters, of which the first has this number, has made as many posts as its script has, or is open
+abbrev pub are_whole_from : Parts → List Event → ℕ → List PosterPart → Bool
+are_whole_from wiring history number [] = true
+are_whole_from wiring history number (poster ∷ posters) =
+    ((posts_of_poster history number == length poster.posts) || is_some (open_poster wiring number)) && are_whole_from wiring history (number + 1) posters
 
--- each poster has made its whole script; and where a task was shed, tasks have made exactly as many posts as the budget
+-- each poster that isn't open has made its whole script; and where a task was shed, tasks have made exactly as many posts as the budget
 abbrev pub is_complete : Parts → List Event → Bool
-is_complete wiring history = are_whole_from history 0 wiring.posters && (not (has_shed history) || (posts_of_tasks history == wiring.budget))
+is_complete wiring history = are_whole_from wiring history 0 wiring.posters && (not (has_shed history) || (posts_of_tasks history == wiring.budget))
 
 -- where a task was shed, what tasks posted and one post for each task that has some left use the budget up
 abbrev pub is_covered : Parts → List Event → Bool

@@ -1,8 +1,9 @@
 -- Which event is allowed after which history: one definition a rule, true where the rule lets it pass.
 use Rattle.std.specs.Prelude.{ℕ, ◌+◌, ◌-◌, Bool, true, false, not, ◌==◌, ◌&&◌, ◌||◌, nat_lt, nat_le, List, [], length, Option, Some, None, option_and_then, if◌then◌else◌}
-use Rattle.std.specs.List.{slice_get, list_all}
+use Rattle.std.specs.List.{slice_get, list_all, list_any}
 use Rattle.std.specs.Option.{option_map_or}
 use Rattle.ccr_base.specs.Bounds.{most_actors}
+use Rattle.ccr_base.specs.Lists.{has_number, are_apart}
 use Rattle.ccr_base.specs.declared.names.TaskId.{TaskId}
 use Rattle.ccr_base.specs.declared.names.MsgId.{MsgId}
 use Rattle.ccr_base.specs.declared.names.MsgId.TheVariants.{Script, Task}
@@ -27,9 +28,10 @@ use Rattle.ccr_base.specs.Names.{same_task, has_task, same_lists, same_options}
 use Rattle.ccr_base.specs.Values.{same_value}
 use Rattle.ccr_model.specs.Posts.{posts_of_poster, posts_of_task, posts_of_tasks}
 use Rattle.ccr_wiring.specs.Actors.{is_behind_posters}
-use Rattle.ccr_wiring.specs.Wirings.{Placement, placement, policy_of}
+use Rattle.ccr_wiring.specs.Openness.{open_poster, open_handler}
+use Rattle.ccr_wiring.specs.Wirings.{Placement, placement, policy_of, exception_port}
 use Rattle.ccr_model.specs.Firings.{fired, cut, ever_admitted, put, spot_of}
-use Rattle.ccr_model.specs.TaskData.{placement_of, play_of}
+use Rattle.ccr_model.specs.TaskData.{placement_of, load_of, play_of}
 use Rattle.ccr_model.specs.Tasks.{is_interleave, is_teardown, is_concurrent, waiting, queued, running, running_by, admitted, has_post_left, count_unfinished}
 use Rattle.ccr_model.specs.Live.{is_live, has_room, is_none_of}
 use Rattle.ccr_model.specs.Selection.{is_selection}
@@ -38,18 +40,57 @@ use Rattle.ccr_model.specs.Selection.{is_selection}
 abbrev pub is_post : Msg → Sent → Bool
 is_post message sent = (message.port == sent.port) && same_value message.value sent.value && same_lists (λ c d. c == d) message.causes sent.causes
 
--- rule 1: it is the poster's next line
+-- a value has 1 to 8 numbers
+abbrev pub is_value : List ℕ → Bool
+is_value value = nat_le 1 (length value) && nat_le (length value) 8
+
+-- whether an open poster may post it: to one of these ports, with causes of the wiring, none twice
+abbrev pub is_outside_post : Parts → List ℕ → Msg → Bool
+is_outside_post wiring ports message =
+    has_number ports message.port
+    && is_value message.value
+    && list_all (λ cause. nat_lt cause (length wiring.causes)) message.causes
+    && are_apart message.causes
+
+-- whether it is this line of the poster's script
+abbrev pub is_line_of : Parts → ℕ → ℕ → Msg → Bool
+is_line_of wiring actor index message = option_map_or (is_post message) (option_and_then (λ (p : PosterPart). slice_get p.posts index) (slice_get wiring.posters actor)) false
+
+-- rule 1: it is the poster's next line, or the next post of an open poster
 abbrev pub is_script_line : Parts → List Event → ℕ → ℕ → Msg → Bool
 is_script_line wiring history actor index message =
     (index == posts_of_poster history actor)
-    && option_map_or (is_post message) (option_and_then (λ (p : PosterPart). slice_get p.posts index) (slice_get wiring.posters actor)) false
+    && (is_line_of wiring actor index message
+    || option_map_or (λ ports. is_outside_post wiring ports message) (open_poster wiring actor) false)
 
--- rule 2: it is the next post of the running task's play
+-- the ports to which the task may post from outside, where its handler is open
+abbrev pub open_ports : Parts → List Event → TaskId → Option (List ℕ)
+open_ports wiring history task = option_and_then (λ (s : Placement). open_handler wiring s.branch.handler) (placement_of wiring history task)
+
+-- whether it tells a failure to the exception port of one of these causes
+abbrev pub is_exception : Parts → List ℕ → Msg → Bool
+is_exception wiring causes message =
+    same_lists (λ c d. c == d) message.causes []
+    && list_any (λ cause. option_map_or (λ port. port == message.port) (exception_port wiring cause) false) causes
+
+-- whether a task with these causes and ports may post it: to one of the ports with the causes, or a failure that it tells
+abbrev pub is_open_post_with : Parts → List ℕ → List ℕ → Msg → Bool
+is_open_post_with wiring causes ports message =
+    is_value message.value
+    && ((has_number ports message.port && same_lists (λ c d. c == d) message.causes causes)
+    || is_exception wiring causes message)
+
+-- whether a task of an open handler may post it: with the causes that it started with
+abbrev pub is_open_post : Parts → List Event → TaskId → List ℕ → Msg → Bool
+is_open_post wiring history task ports message = is_open_post_with wiring (load_of wiring history task).causes ports message
+
+-- rule 2: it is the next post of the running task's play, or the next post of a running task of an open handler
 abbrev pub is_play_post : Parts → List Event → TaskId → ℕ → Msg → Bool
 is_play_post wiring history task index message =
     has_task (running history) task
     && (index == posts_of_task history task)
-    && option_map_or (is_post message) (slice_get (play_of wiring history task).posts index) false
+    && (option_map_or (is_post message) (slice_get (play_of wiring history task).posts index) false
+    || option_map_or (λ ports. is_open_post wiring history task ports message) (open_ports wiring history task) false)
 
 -- rule 3: tasks have made fewer posts than the budget
 abbrev pub has_budget : Parts → List Event → Bool
@@ -134,9 +175,20 @@ is_used_up budget posts tasks = nat_le budget (posts + (tasks - 1))
 abbrev pub may_shed : Parts → List Event → TaskId → Bool
 may_shed wiring history task = has_post_left wiring history task && is_used_up wiring.budget (posts_of_tasks history) (count_unfinished wiring history)
 
--- rule 16: shed where it may be; else no post of its play is left and it ends as its play does
+-- whether somebody outside may end so a task whose play ends so: done or failed at any time, as yield where an await comes next, never shed
+abbrev pub may_choose : EndHow → PlayEnd → Bool
+may_choose ends.Done end = true
+may_choose (ends.Failed value) end = is_value value
+may_choose ends.Yield end = ends_so ends.Yield end
+may_choose ends.Shed end = false
+
+-- rule 16: shed where it may be; else no post of its play is left and it ends as its play does, or as somebody outside chooses
 abbrev pub may_end : Parts → List Event → TaskId → EndHow → Bool
-may_end wiring history task how = if is_shed how then may_shed wiring history task else not (has_post_left wiring history task) && ends_so how (play_of wiring history task).end
+may_end wiring history task how =
+    if is_shed how then may_shed wiring history task
+    else not (has_post_left wiring history task)
+    && (ends_so how (play_of wiring history task).end
+    || option_map_or (λ ports. may_choose how (play_of wiring history task).end) (open_ports wiring history task) false)
 
 -- the number of the rule in docs/MODEL.md
 abbrev pub number_of : Rule → ℕ

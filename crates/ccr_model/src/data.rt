@@ -2,7 +2,7 @@
 
 ghost use Rattle.std.specs.Prelude.{◌≡◌, IfOk};
 ghost use Rattle.ccr_wiring.specs.Wirings.{branch_of, segment_of};
-ghost use Rattle.ccr_model.specs.TaskData.{messages_of, with_messages, no_load, load_at, load_after, play_at, play_of};
+ghost use Rattle.ccr_model.specs.TaskData.{messages_of, with_messages, no_load, load_at, load_after, load_of, play_at, play_of};
 ghost use Rattle.ccr_model.specs.Views.{seen, load_seen};
 
 use crate::Event;
@@ -123,6 +123,21 @@ fn load_at(
     let load = load_at(alloc, wiring, events, spot_before(branch, site), before)?;
     let left = load_after(alloc, wiring, branch, site, load)?;
     with_messages(alloc, left, &messages)
+}
+
+/// The values and causes that the task starts with.
+pub fn load_of(
+    alloc: Global,
+    wiring: &Wiring,
+    events: &[Event],
+    task: TaskId,
+) -> Result<TaskLoad, OutOfMemory>
+    ensures { IfOk result (λ load. load_seen load ≡ load_of wiring.now events.now task) }
+{
+    match spot_of(events, task) {
+        Some(spot) => load_at(alloc, wiring, events, spot, task),
+        None => Ok(no_load(alloc)),
+    }
 }
 
 /// The play of a task that fires at the spot and starts with this load.

@@ -20,8 +20,8 @@ pub mod tasks;
 pub use ghost_history::GhostHistory;
 pub use history::{EndHow, Event, Fate, History, TaskState, Totals};
 pub use laws::{
-    exclusive_roots_are_alone, first_is_allowed, legal_is_covered, messages_are_taken_once,
-    none_first_is_quiet, posts_have_names_of_their_own,
+    closed_is_quiet, exclusive_roots_are_alone, first_is_allowed, legal_is_covered,
+    messages_are_taken_once, none_first_is_quiet, posts_have_names_of_their_own,
 };
 pub use refusal::refused_by;
 pub use rule::Rule;

@@ -1,9 +1,10 @@
 -- What a law is about: runs of a valid wiring.
-use Rattle.std.specs.Prelude.{◌≡◌, ◌<◌, ◌≤◌, ℕ, List, [], Some}
+use Rattle.std.specs.Prelude.{◌≡◌, ◌<◌, ◌≤◌, ℕ, true, List, [], Some}
 use Rattle.ccr_base.specs.Bounds.{most_workers}
 use Rattle.ccr_wiring.specs.Actors.{actor_count}
 use Rattle.ccr_wiring.specs.declared.parts.Parts.{Parts}
 use Rattle.ccr_wiring.specs.Valid.{IsValid}
+use Rattle.ccr_wiring.specs.Openness.{is_closed}
 use Rattle.ccr_claim.specs.declared.asks.Asked.{Asked}
 use Rattle.ccr_actor.specs.Actors.{next}
 use Rattle.ccr_actor.specs.Nets.{AreNext}
@@ -26,11 +27,12 @@ WhereAskedNext wiring workers lacks entries actor one law =
     next wiring actor (lacks actor) (replies_of wiring entries actor) ≡ Some one →
     law
 
--- the law holds of each next ask of an actor of a run, wherever the actors lack memory
+-- the law holds of each next ask of an actor of a run of a closed wiring, wherever the actors lack memory
 abbrev pub OfNextAsks : (Parts → List Entry → Asked → Type 0) → Type 0
 OfNextAsks law =
     (wiring : Parts) (workers : ℕ) (lacks : Lacks) (entries : List Entry) (actor : ℕ) (one : Asked) →
     IsValid wiring →
+    is_closed wiring ≡ true →
     workers ≤ most_workers →
     WhereAskedNext wiring workers lacks entries actor one (law wiring entries one)
 
@@ -43,6 +45,7 @@ abbrev pub OfPlayedRuns : (Parts → ℕ → Lacks → List (Act Deed) → Type 
 OfPlayedRuns law =
     (wiring : Parts) (workers : ℕ) (lacks : Lacks) (acts : List (Act Deed))
     → IsValid wiring
+    → is_closed wiring ≡ true
     → workers ≤ most_workers
     → IsPlayedRun wiring workers lacks acts
     → law wiring workers lacks acts

@@ -5,6 +5,7 @@ use Rattle.ccr_base.specs.declared.names.Place.{Place}
 use Rattle.ccr_wiring.specs.Actors.{actor_count}
 use Rattle.ccr_wiring.specs.declared.parts.Parts.{Parts}
 use Rattle.ccr_wiring.specs.Valid.{IsValid}
+use Rattle.ccr_wiring.specs.Openness.{is_closed}
 use Rattle.ccr_claim.specs.declared.asks.Ask.{Ask}
 use Rattle.ccr_claim.specs.declared.asks.Asked.{Asked}
 use Rattle.ccr_claim.specs.declared.asks.Reply.{Reply}
@@ -57,6 +58,7 @@ pub record IsActing (wiring : Parts) (lacks : Lacks) (entries : List Entry) (k :
 -- the acts are a run, the entries are theirs, and each actor stands where these lead it
 pub record IsPlayed (workers : ℕ) (lacks : Lacks) (state : PlainState) (actors : List Acting) (entries : List Entry) : Type 0 where
   pub valid : IsValid state.wiring
+  pub closed : is_closed state.wiring ≡ true
   pub run : IsRunFrom (protocol state.wiring lacks) (actor_count state.wiring workers) (scene state.wiring) (cast (protocol state.wiring lacks)) state.acts
   pub same : entries ≡ entries_of state.wiring state.acts
   pub count : length actors ≡ actor_count state.wiring workers

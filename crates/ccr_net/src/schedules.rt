@@ -4,6 +4,7 @@ ghost use Rattle.std.specs.Prelude.{◌≡◌, ◌<◌, ◌≤◌, [], All, leng
 ghost use Rattle.std.specs.Option.{is_some};
 ghost use Rattle.ccr_base.specs.Bounds.{most_actors, most_workers};
 ghost use Rattle.ccr_wiring.specs.Actors.{actor_count};
+ghost use Rattle.ccr_wiring.specs.Openness.{is_closed};
 ghost use Rattle.ccr_claim.specs.Asks.{due_of, fits};
 ghost use Rattle.ccr_actor.specs.Acting.{due_in, next, quiet, IsAfter};
 ghost use Rattle.ccr_object.specs.Objects.{note_of};
@@ -28,6 +29,7 @@ pub fn run_schedule(
     workers: u32,
     turns: &[ActorNo],
 ) -> Result<Full, OutOfMemory>
+    requires closed { is_closed wiring.now ≡ true }
     requires workers { workers ≤ most_workers }
     requires turns { All (λ turn. turn < actor_count wiring.now workers) turns.now }
     ensures scheduled { IfOk result (λ full. full.entries ≡ scheduled wiring.now turns.now) }

@@ -1,6 +1,7 @@
 //! What the actors do before the serial order finishes the run.
 
-ghost use Rattle.std.specs.Prelude.{◌≡◌, ◌==◌, ◌<◌, ◌≤◌, All, IfOk, IfSome, None, Some, is_ok, length, option_map};
+ghost use Rattle.std.specs.Prelude.{◌≡◌, ◌==◌, ◌<◌, ◌≤◌, All, IfOk, IfSome, None, Some, is_ok, length, option_map, true};
+ghost use Rattle.ccr_wiring.specs.Openness.{is_closed};
 ghost use Rattle.ccr_base.specs.Bounds.{most_workers};
 ghost use Rattle.ccr_wiring.specs.Actors.{actor_count};
 ghost use Rattle.ccr_model.specs.Firings.{fired};
@@ -25,6 +26,7 @@ fn scheduled_history(
     workers: u32,
     turns: &[ActorNo],
 ) -> Result<History, OutOfMemory>
+    requires closed { is_closed wiring.now ≡ true }
     requires workers { workers ≤ most_workers }
     requires turns { All (λ actor. actor < actor_count wiring.now workers) turns.now }
     ensures begins { IfOk result (Begins wiring.now workers (Some turns.now)) }
@@ -47,6 +49,7 @@ fn threaded_history<R: AllocGlobal + Threads + Wait + Sync, G: Gate + Sync>(
     wiring: &Wiring,
     workers: u32,
 ) -> Result<History, OutOfMemory>
+    requires closed { is_closed wiring.now ≡ true }
     requires some { 0 < workers }
     requires many { workers ≤ most_workers }
     ensures begins { IfOk result (Begins wiring.now workers None) }
@@ -81,6 +84,7 @@ pub fn first_history<R: AllocGlobal + Threads + Wait + Sync, G: Gate + Sync>(
     workers: u32,
     turns: Option<&[ActorNo]>,
 ) -> Result<History, OutOfMemory>
+    requires closed { is_closed wiring.now ≡ true }
     requires workers { workers ≤ most_workers }
     requires turns { IfSome turns (λ turns. All (λ actor. actor < actor_count wiring.now workers) turns.now) }
     ensures begins { IfOk result (Begins wiring.now workers (option_map (λ t. t.now) turns.entry)) }

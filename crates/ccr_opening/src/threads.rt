@@ -1,6 +1,7 @@
 //! A run in threads.
 
 ghost use Rattle.std.specs.Prelude.{◌≡◌, ◌≤◌, ◌<◌, ℕ, [], true, IfOk};
+ghost use Rattle.ccr_wiring.specs.Openness.{is_closed};
 ghost use Rattle.ccr_base.specs.Bounds.{most_workers};
 ghost use Rattle.ccr_wiring.specs.Actors.{actor_count};
 ghost use Rattle.ccr_model.specs.Legal.{IsLegal, is_covered};
@@ -26,6 +27,7 @@ pub fn run_threads<R: Threads + Wait + Sync, G: Gate + Sync>(
     workers: u32,
     gate: &G,
 ) -> Result<Shown, OutOfMemory>
+    requires closed { is_closed wiring.now ≡ true }
     requires workers { workers ≤ most_workers }
     requires actors { 1 ≤ actor_count wiring.now workers }
     ensures run { IfOk result (λ seen. IsOfRunToRest wiring.now workers seen.history seen.short) }
@@ -48,6 +50,7 @@ pub fn run_threads_in_full<R: Threads + Wait + Sync, G: Gate + Sync>(
     workers: u32,
     gate: &G,
 ) -> Result<Closed, OutOfMemory>
+    requires closed { is_closed wiring.now ≡ true }
     requires workers { workers ≤ most_workers }
     requires actors { 1 ≤ actor_count wiring.now workers }
     ensures run { IfOk result (λ closed. IsRunAfter wiring.now workers never [] closed.full.entries) }

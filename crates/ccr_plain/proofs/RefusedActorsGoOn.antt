@@ -5,6 +5,7 @@ use Rattle.std.specs.Option.{option_map, option_and_then}
 use Rattle.std.proofs.Math.ListN.{length-set}
 use Rattle.ccr_wiring.specs.declared.parts.Parts.{Parts}
 use Rattle.ccr_wiring.specs.Valid.{IsValid}
+use Rattle.ccr_wiring.specs.Openness.{is_closed}
 use Rattle.ccr_base.proofs.Booleans.{eq-self, same_number, differ}
 use Rattle.ccr_base.specs.Lists.{has_number}
 use Rattle.ccr_base.proofs.Options.{get-set_same, get-set_other}
@@ -161,12 +162,12 @@ module _ (w : Parts) (workers : ℕ) (lacks others : Lacks) (facts : StepFacts w
       ap (λ k. option_map (numbered w) (actors.next w k (others k) (l act.seat).0.given)) actor_is ∙ ap (option_map (numbered w)) same ∙ ap (λ k. option_map (numbered w) (actors.next w k (lacks k) (l act.seat).0.given)) (sym actor_is) in
       (run.0, asks ∙ run.1, run.2, run.3, run_alike (past ++ adds.entry ∷ []) (moved after_deed v act) (taught (protocol w lacks) l v act) acts adds.matches run.4 alike)
 
-module _ (w : Parts) (workers : ℕ) (lacks : Lacks) (valid : IsValid w) (few : workers ≤ 16) (acts : List (Act Deed)) (run : IsRunFrom (protocol w lacks) (length w.posters + workers) (scene w) (cast (protocol w lacks)) acts) (k : ℕ) (none : lacks k ≡ None) where
+module _ (w : Parts) (workers : ℕ) (lacks : Lacks) (valid : IsValid w) (closed : is_closed w ≡ true) (few : workers ≤ 16) (acts : List (Act Deed)) (run : IsRunFrom (protocol w lacks) (length w.posters + workers) (scene w) (cast (protocol w lacks)) acts) (k : ℕ) (none : lacks k ≡ None) where
   alike_so : (j : ℕ) (given : List Reply) → length given < length (cast_from w lacks (scene w) (cast (protocol w lacks)) acts j).0.given → actors.next w j (lacking lacks k (length (replies_of w (entries_of w acts) k)) j) given ≡ actors.next w j (lacks j) given
   alike_so j given less = by (k == j) refl
     where
       here : length given < length (replies_of w (entries_of w acts) j)
-      here = subst (λ s. length given < length s.0.given) ((match_so w workers lacks valid few acts run).actors j) less
+      here = subst (λ s. length given < length s.0.given) ((match_so w workers lacks valid closed few acts run).actors j) less
 
       by : (t : Bool) → (k == j) ≡ t → actors.next w j (lacking lacks k (length (replies_of w (entries_of w acts) k)) j) given ≡ actors.next w j (lacks j) given
       by true is =
@@ -177,7 +178,7 @@ module _ (w : Parts) (workers : ℕ) (lacks : Lacks) (valid : IsValid w) (few : 
       by false is = ap (λ lack. actors.next w j lack given) (other_lack lacks k (length (replies_of w (entries_of w acts) k)) j is)
 
   pub run_refused : IsRunFrom (protocol w (lacking lacks k (length (replies_of w (entries_of w acts) k)))) (length w.posters + workers) (scene w) (cast (protocol w (lacking lacks k (length (replies_of w (entries_of w acts) k))))) acts
-  run_refused = run_alike w workers lacks (lacking lacks k (length (replies_of w (entries_of w acts) k))) (step_facts w workers lacks valid few) [] (scene w) (cast (protocol w lacks)) acts (Matches-begins w workers lacks) run alike_so
+  run_refused = run_alike w workers lacks (lacking lacks k (length (replies_of w (entries_of w acts) k))) (step_facts w workers lacks valid closed few) [] (scene w) (cast (protocol w lacks)) acts (Matches-begins w workers lacks) run alike_so
 
 -- ---- one turn
 
@@ -205,11 +206,12 @@ module _ (workers : ℕ) (lacks : Lacks) (state : PlainState) (team : List Actin
     run_so : IsRunFrom (protocol w (lacking lacks k count)) (length w.posters + workers) (scene w) (cast (protocol w (lacking lacks k count))) state.acts
     run_so =
         let P : List Entry → Type 0 = λ es. IsRunFrom (protocol w (lacking lacks k (length (replies_of w es k)))) (length w.posters + workers) (scene w) (cast (protocol w (lacking lacks k (length (replies_of w es k))))) state.acts in
-        subst P (sym played.same) (run_refused w workers lacks played.valid few state.acts played.run k (memory_so w lacks entries k a b one acting_so asks goes so))
+        subst P (sym played.same) (run_refused w workers lacks played.valid played.closed few state.acts played.run k (memory_so w lacks entries k a b one acting_so asks goes so))
 
     pub played_refused : IsPlayed workers (lacking lacks k (length (replies_of state.wiring entries k))) state (slice_set team k b) entries
     played_refused = record {
       valid = played.valid;
+      closed = played.closed;
       run = run_so;
       same = played.same;
       count = length-set team k b ∙ played.count;

@@ -10,6 +10,7 @@ use Rattle.ccr_base.specs.declared.names.Place.{Place}
 use Rattle.ccr_wiring.specs.declared.parts.Parts.{Parts}
 use Rattle.ccr_wiring.specs.Valid.{IsValid}
 use Rattle.ccr_wiring.proofs.Soundness.{sound}
+use Rattle.ccr_wiring.specs.Openness.{is_closed}
 use Rattle.ccr_base.proofs.Booleans.{eq-self, same_number, above_differs}
 use Rattle.ccr_claim.specs.declared.asks.Ask.{Ask}
 use Rattle.ccr_claim.specs.declared.asks.Asked.{Asked}
@@ -100,9 +101,10 @@ owed-push steps step = fold-append owed_after 0 steps (step ∷ [])
 
 -- ---- the start
 
-pub serving_start : (w : Parts) → IsValid w → IsServing w []
-serving_start w valid = record {
+pub serving_start : (w : Parts) → IsValid w → is_closed w ≡ true → IsServing w []
+serving_start w valid closed = record {
   valid = valid;
+  closed = closed;
   lacks = never;
   run = tt;
   next = λ k low. tt;
@@ -116,7 +118,7 @@ owed_none w = sum-none w (seats w)
 
 -- what the net did is a run
 pub serving_run : (w : Parts) (acts : List (Act Deed)) → IsServing w acts → IsRun w 16 (entries_of w acts)
-serving_run w acts serving = record { lacks = serving.lacks; steps = (match_so w 16 serving.lacks serving.valid (omega arith) acts serving.run).run }
+serving_run w acts serving = record { lacks = serving.lacks; steps = (match_so w 16 serving.lacks serving.valid serving.closed (omega arith) acts serving.run).run }
 
 -- ---- an ask
 
@@ -162,7 +164,7 @@ module _ (w : Parts) (acts : List (Act Deed)) (serving : IsServing w acts) (k : 
     few_workers = omega arith
 
     run_now : IsRunFrom (protocol w own_lacks) (length w.posters + 16) (scene w) (cast (protocol w own_lacks)) acts
-    run_now = played_too w 16 serving.lacks own_lacks (step_facts w 16 serving.lacks serving.valid few_workers) acts serving.run next_so
+    run_now = played_too w 16 serving.lacks own_lacks (step_facts w 16 serving.lacks serving.valid serving.closed few_workers) acts serving.run next_so
 
     asks_now : next w k (own_lacks k) (replies_of w (entries_of w acts) k) ≡ Some one
     asks_now = ap (λ lack. next w k lack (replies_of w (entries_of w acts) k)) here ∙ ap (next w k proper.0) (sym (serving.heard k)) ∙ proper.2
@@ -171,14 +173,14 @@ module _ (w : Parts) (acts : List (Act Deed)) (serving : IsServing w acts) (k : 
     act = act_after w acts k one.place one.ask
 
     adds : Adds w 16 own_lacks (entries_of w acts) (scene_after w acts) (cast_from w own_lacks (scene w) (cast (protocol w own_lacks)) acts) (act_after w acts k one.place one.ask)
-    adds = adds_so w 16 own_lacks serving.valid few_workers acts run_now k low one asks_now
+    adds = adds_so w 16 own_lacks serving.valid serving.closed few_workers acts run_now k low one asks_now
 
     pub met_now : is_some (note_of (scene_after w acts (number_at w one.place)).0 one.ask) ≡ true
     met_now = adds.met
 
     there : place_at w (number_at w one.place) ≡ one.place
     there =
-        let at = (ask_facts w 16 own_lacks serving.valid few_workers).there (entries_of w acts) k one (record { run = (match_so w 16 own_lacks serving.valid few_workers acts run_now).run; low = low; asks = asks_now }) in
+        let at = (ask_facts w 16 own_lacks serving.valid serving.closed few_workers).there (entries_of w acts) k one (record { run = (match_so w 16 own_lacks serving.valid serving.closed few_workers acts run_now).run; low = low; asks = asks_now }) in
         place_at-stands w one.place (stands w one.place at.0 at.1)
 
     module _ (entry : Entry) (reply : Reply) (is_entry : entry_of w (act_after w acts k one.place one.ask) ≡ Some entry) (replied : reply_of (scene_after w acts (number_at w one.place)).0 one.ask ≡ Replied reply) (fit : fits (due_of one.ask) reply ≡ true) where
@@ -200,12 +202,12 @@ module _ (w : Parts) (acts : List (Act Deed)) (serving : IsServing w acts) (k : 
       entries_so = entries-push w acts act entry is_entry
 
       pub replies_own : replies_of w (entries_of w acts ++ entry ∷ []) k ≡ replies_of w (entries_of w acts) k ++ reply ∷ []
-      replies_own = heard_own w 16 own_lacks serving.valid few_workers acts run_now k low one asks_now entry reply is_entry replied
+      replies_own = heard_own w 16 own_lacks serving.valid serving.closed few_workers acts run_now k low one asks_now entry reply is_entry replied
 
       pub entry_made : entry_for w (entries_of w acts) k one ≡ Some entry
       entry_made =
           ap (option_and_then (entry_for w (entries_of w acts) k)) (sym asks_now)
-          ∙ made_so w 16 own_lacks serving.valid few_workers acts run_now k low one asks_now entry is_entry
+          ∙ made_so w 16 own_lacks serving.valid serving.closed few_workers acts run_now k low one asks_now entry is_entry
 
       -- by the other actors as well
       each : (P : ℕ → Type 0) → P k → ((j : ℕ) → (k == j) ≡ false → P j) → (j : ℕ) → P j
@@ -218,14 +220,15 @@ module _ (w : Parts) (acts : List (Act Deed)) (serving : IsServing w acts) (k : 
       pub serving_next : IsServing w (acts ++ act_after w acts k one.place one.ask ∷ [])
       serving_next = record {
         valid = serving.valid;
+        closed = serving.closed;
         lacks = own_lacks;
-        run = run_so w 16 own_lacks serving.valid few_workers acts run_now k low one asks_now;
+        run = run_so w 16 own_lacks serving.valid serving.closed few_workers acts run_now k low one asks_now;
         next = each (λ j. j < seats w → AreNext w j (own_lacks j) [] (steps_in w (acts ++ act ∷ []) j))
             (λ less. subst (AreNext w k (own_lacks k) []) (sym steps_own) (next_more w k (own_lacks k) [] (steps_in w acts k) step (next_so k less) (ap (λ lack. next w k lack (nets.replies_of (steps_in w acts k))) here ∙ proper.2)))
             (λ j other less. subst (AreNext w j (own_lacks j) []) (sym (steps_other j other)) (next_so j less));
         heard = each (λ j. nets.replies_of (steps_in w (acts ++ act ∷ []) j) ≡ replies_of w (entries_of w (acts ++ act ∷ [])) j)
             (ap nets.replies_of steps_own ∙ replies-more (steps_in w acts k) step ∙ ap (λ given. given ++ reply ∷ []) (serving.heard k) ∙ sym replies_own ∙ ap (λ es. replies_of w es k) (sym entries_so))
-            (λ j other. ap nets.replies_of (steps_other j other) ∙ serving.heard j ∙ sym (heard_other w 16 own_lacks serving.valid few_workers acts run_now k low one asks_now entry is_entry j other) ∙ ap (λ es. replies_of w es j) (sym entries_so));
+            (λ j other. ap nets.replies_of (steps_other j other) ∙ serving.heard j ∙ sym (heard_other w 16 own_lacks serving.valid serving.closed few_workers acts run_now k low one asks_now entry is_entry j other) ∙ ap (λ es. replies_of w es j) (sym entries_so));
         fitting = each (λ j. AreFitting (steps_in w (acts ++ act ∷ []) j))
             (subst AreFitting (sym steps_own) (fitting-both (steps_in w acts k) (step ∷ []) (serving.fitting k) (fit, tt)))
             (λ j other. subst AreFitting (sym (steps_other j other)) (serving.fitting j));
@@ -366,11 +369,11 @@ module _ (old : PlainState) (es : List Entry) (room owed count k : ℕ) (one : A
         }))
 
 -- the start
-pub roomy_start : (state : PlainState) (es : List Entry) (room count : ℕ) → IsValid state.wiring → state.acts ≡ [] → es ≡ [] → count ≡ seats state.wiring → IsRoomy state es room 0 count
-roomy_start state es room count valid none empty all =
+pub roomy_start : (state : PlainState) (es : List Entry) (room count : ℕ) → IsValid state.wiring → is_closed state.wiring ≡ true → state.acts ≡ [] → es ≡ [] → count ≡ seats state.wiring → IsRoomy state es room 0 count
+roomy_start state es room count valid closed none empty all =
     let P : List (Act Deed) → Type 0 = λ done. IsRoomy (record { wiring = state.wiring; acts = done; room = state.room }) es room 0 count in
     subst P (sym none) (record {
-      serving = serving_start state.wiring valid;
+      serving = serving_start state.wiring valid closed;
       same = empty;
       owes = sym (owed_none state.wiring);
       acts_room = omega arith;

@@ -1,9 +1,10 @@
 -- A net on one thread: the run so far, and the room for the entries that are owed.
-use Rattle.std.specs.Prelude.{◌≡◌, ◌<◌, ◌≤◌, ℕ, ◌+◌, List, [], ◌∷◌, ◌++◌}
+use Rattle.std.specs.Prelude.{◌≡◌, ◌<◌, ◌≤◌, true, ℕ, ◌+◌, List, [], ◌∷◌, ◌++◌}
 use Rattle.ccr_base.specs.Bounds.{most_workers}
 use Rattle.ccr_wiring.specs.declared.parts.Parts.{Parts}
 use Rattle.ccr_wiring.specs.Actors.{actor_count}
 use Rattle.ccr_wiring.specs.Valid.{IsValid}
+use Rattle.ccr_wiring.specs.Openness.{is_closed}
 use Rattle.ccr_claim.specs.declared.asks.Asked.{Asked}
 use Rattle.ccr_claim.specs.declared.asks.Reply.{Reply}
 use Rattle.ccr_actor.specs.Nets.{AreFitting, AreNext}
@@ -35,6 +36,7 @@ seats wiring = actor_count wiring most_workers
 -- replies of the entries, and no other actor has any
 pub record IsServing (wiring : Parts) (acts : List (Act Deed)) : Type 0 where
   pub valid : IsValid wiring
+  pub closed : is_closed wiring ≡ true
   pub lacks : Lacks
   pub run : IsRunFrom (protocol wiring lacks) (seats wiring) (scene wiring) (cast (protocol wiring lacks)) acts
   pub next : (actor : ℕ) → actor < seats wiring → AreNext wiring actor (lacks actor) [] (steps_in wiring acts actor)

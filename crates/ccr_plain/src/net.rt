@@ -1,6 +1,7 @@
 //! The net of all places on one thread.
 
 ghost use Rattle.std.specs.Prelude.{◌≡◌, ◌≢◌, ◌<◌, ◌≤◌, ◌+◌, ◌*◌, ◌^◌, [], ◌∷◌, ◌++◌, ℕ, true, false, length, IfOk, OnOk, OnErr, IsOk, IsErr};
+ghost use Rattle.ccr_wiring.specs.Openness.{is_closed};
 ghost use Rattle.ccr_actor.specs.Nets.{IsProper};
 ghost use Rattle.ccr_actor.specs.Nets.{replies_of as replied_in};
 ghost use Rattle.ccr_claim.specs.Asks.{due_of, fits, is_settling};
@@ -47,6 +48,7 @@ impl<'w> Model for PlainNet<'w> {
 impl<'w> PlainNet<'w> {
     /// The net before all asks.
     pub fn start(alloc: Global, wiring: &'w Wiring) -> Result<PlainNet<'w>, OutOfMemory>
+        requires { is_closed wiring.now ≡ true }
         ensures wiring { IfOk result (λ net. net.wiring ≡ wiring.now) }
         ensures entries { IfOk result (λ net. net.entries ≡ []) }
         ensures steps { IfOk result (λ net. (actor : ℕ) → steps_in net.wiring net.acts actor ≡ []) }

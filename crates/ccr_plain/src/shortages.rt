@@ -1,6 +1,7 @@
 //! Runs by a schedule of turns in which some asks find no memory.
 
 ghost use Rattle.std.specs.Prelude.{◌≡◌, ◌<◌, ◌≤◌, ◌+◌, ◌^◌, [], All, length, IfOk, is_some, true};
+ghost use Rattle.ccr_wiring.specs.Openness.{is_closed};
 ghost use Rattle.ccr_base.specs.Bounds.{most_actors, most_workers};
 ghost use Rattle.ccr_base.specs.Lists.{has_number};
 ghost use Rattle.ccr_wiring.specs.Actors.{actor_count};
@@ -27,6 +28,7 @@ pub fn run_short(
     turns: &[ActorNo],
     refused: &[u64],
 ) -> Result<Full, OutOfMemory>
+    requires closed { is_closed wiring.now ≡ true }
     requires workers { workers ≤ most_workers }
     requires turns { All (λ turn. turn < actor_count wiring.now workers) turns.now }
     ensures short { IfOk result (λ full. full.entries ≡ shortened wiring.now refused.now turns.now) }

@@ -49,6 +49,8 @@ names = record {
   arbiters = record { name = codes "j"; kind = kinds.Receive; branches = record { name = codes "j"; group = groups.Always; queue = 0; handler = 0; pattern = Slots (slot 0 ∷ slot 1 ∷ []) } ∷ [] } ∷ [];
   domains = [];
   posters = [];
+  open_posters = [];
+  open_handlers = [];
 }
 
 d0 : decimal 0 ≡ 48 ∷ []

@@ -1,6 +1,7 @@
 //! A record, read line by line.
 
-ghost use Rattle.std.specs.Prelude.{◌≡◌, ◌≢◌, ◌≤◌, ◌<◌, ◌+◌, [], ◌∷◌, All, length, IfErr, IfOk};
+ghost use Rattle.std.specs.Prelude.{◌≡◌, ◌≢◌, ◌≤◌, ◌<◌, ◌+◌, [], ◌∷◌, All, length, IfErr, IfOk, true};
+ghost use Rattle.ccr_wiring.specs.Openness.{is_closed};
 ghost use Rattle.ccr_base.specs.Bounds.{most_bytes, most_wiring_bytes, most_workers};
 ghost use Rattle.ccr_text.specs.Lines.{split_text, numbered, behind_line};
 ghost use Rattle.ccr_wiring.specs.Actors.{actor_count};
@@ -39,7 +40,8 @@ fn line_at(index: usize, text: &[u8]) -> u32
 /// The wiring that a part of a longer input says. A part that is too long is refused at the line of the first byte too many, with
 /// the code of what is outside a limit (docs/FORMATS.md).
 pub fn read_part(alloc: Global, part: &[u8]) -> Result<Wiring, ReadRefused>
-    ensures { IsReading result (reading_part part.now) }
+    ensures reading { IsReading result (reading_part part.now) }
+    ensures closed { IfOk result (λ wiring. is_closed wiring ≡ true) }
 {
     if part.len() > MAX_WIRING_TEXT {
         let line = line_at(MAX_WIRING_TEXT, part);
@@ -120,10 +122,12 @@ fn read_record_behind(
     before: u32,
     workers: u32,
 ) -> Result<Record, ReadRefused>
+    requires closed { is_closed wiring ≡ true }
     requires text { length text.now ≤ most_bytes }
     requires before { before ≤ most_bytes + 1 }
     requires workers { workers ≤ most_workers }
     ensures reading { IsReading result (record_behind wiring before workers text.now) }
+    ensures closed { IfOk result (λ read. is_closed read.wiring ≡ true) }
     ensures workers { IfOk result (λ read. read.workers ≤ most_workers) }
     ensures turns { IfOk result (λ read. All (λ actor. actor < actor_count read.wiring read.workers) read.turns) }
 {
@@ -145,9 +149,11 @@ fn read_behind(
     text: &[u8],
     before: u32,
 ) -> Result<Record, ReadRefused>
+    requires closed { is_closed wiring ≡ true }
     requires text { length text.now ≤ most_bytes }
     requires before { before ≤ most_bytes }
     ensures reading { IsReading result (reading_behind wiring before text.now) }
+    ensures closed { IfOk result (λ read. is_closed read.wiring ≡ true) }
     ensures workers { IfOk result (λ read. read.workers ≤ most_workers) }
     ensures turns { IfOk result (λ read. All (λ actor. actor < actor_count read.wiring read.workers) read.turns) }
 {
@@ -193,6 +199,7 @@ fn part_before(text: &[u8], index: usize) -> &[u8]
 fn read_text(alloc: Global, text: &[u8]) -> Result<Record, ReadRefused>
     requires { length text.now ≤ most_bytes }
     ensures reading { IsReading result (reading_record text.now) }
+    ensures closed { IfOk result (λ read. is_closed read.wiring ≡ true) }
     ensures workers { IfOk result (λ read. read.workers ≤ most_workers) }
     ensures turns { IfOk result (λ read. All (λ actor. actor < actor_count read.wiring read.workers) read.turns) }
 {
@@ -211,6 +218,7 @@ pub fn read_record(alloc: Global, text: &[u8]) -> Result<Record, ReadRefused>
     ensures reading { IsReading result (reading_record text.now) }
     ensures grammar { IfOk result (Says text.now) }
     ensures refused { IfErr result (SaysNothing text.now) }
+    ensures closed { IfOk result (λ read. is_closed read.wiring ≡ true) }
     ensures workers { IfOk result (λ read. read.workers ≤ most_workers) }
     ensures turns { IfOk result (λ read. All (λ actor. actor < actor_count read.wiring read.workers) read.turns) }
 {

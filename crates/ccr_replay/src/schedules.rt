@@ -1,8 +1,9 @@
 //! The schedule of a run.
 
-ghost use Rattle.std.specs.Prelude.{◌≡◌, ◌≤◌, IfOk, IfSome, Ok, None};
+ghost use Rattle.std.specs.Prelude.{◌≡◌, ◌≤◌, true, IfOk, IfSome, Ok, None};
 ghost use Rattle.ccr_base.specs.Bounds.{most_workers};
 ghost use Rattle.ccr_replay.specs.Schedules.{schedule, IsOfNextSteps};
+ghost use Rattle.ccr_wiring.specs.Openness.{is_closed};
 
 use crate::laws::schedules_give_runs_again;
 use crate::same::are_same;
@@ -32,7 +33,8 @@ pub fn schedule_of(
     workers: u32,
     full: &Full,
 ) -> Result<Option<List<ActorNo>>, OutOfMemory>
-    requires { workers ≤ most_workers }
+    requires few { workers ≤ most_workers }
+    requires closed { is_closed wiring.now ≡ true }
     ensures schedule { IfOk result (λ found. IfSome found (λ turns. turns ≡ schedule full.now.entries)) }
     ensures some { IfOk result (λ found. IfSome found (λ _. IsOfNextSteps wiring.now workers full.now.entries)) }
     ensures none { result ≡ Ok None → IsOfNextSteps wiring.now workers full.now.entries → ⊥ }

@@ -1,4 +1,4 @@
--- What the laws are given, a run of a valid wiring wherever its actors lack memory, and what they say of it.
+-- What the laws are given, a run of a valid closed wiring wherever its actors lack memory, and what they say of it.
 use Rattle.std.specs.Prelude.{◌≡◌, ◌<◌, ◌≤◌, ℕ, Bool, true, List, [], ◌∷◌, ◌++◌, Option}
 use Rattle.ccr_base.specs.Bounds.{most_workers}
 use Rattle.ccr_base.specs.declared.names.Place.{Place}
@@ -7,6 +7,7 @@ use Rattle.ccr_base.specs.declared.names.TaskId.{TaskId}
 use Rattle.ccr_wiring.specs.Actors.{actor_count}
 use Rattle.ccr_wiring.specs.declared.parts.Parts.{Parts}
 use Rattle.ccr_wiring.specs.Valid.{IsValid}
+use Rattle.ccr_wiring.specs.Openness.{is_closed}
 use Rattle.ccr_model.specs.declared.history.Event.{Event}
 use Rattle.ccr_places.specs.declared.notes.Note.{Note}
 use Rattle.ccr_places.specs.Interleaves.{InterleaveState}
@@ -37,6 +38,7 @@ pub record Run : Type 0 where
   pub lacks : Lacks
   pub entries : List Entry
   pub valid : IsValid wiring
+  pub closed : is_closed wiring ≡ true
   pub few : workers ≤ most_workers
   pub steps : IsRunAfter wiring workers lacks [] entries
 
@@ -89,6 +91,7 @@ pub record RunAt : Type 0 where
   pub entry : Entry
   pub more : List Entry
   pub valid : IsValid wiring
+  pub closed : is_closed wiring ≡ true
   pub few : workers ≤ most_workers
   pub steps : IsRunAfter wiring workers lacks [] (past ++ entry ∷ more)
 
@@ -111,6 +114,7 @@ pub record PlayedRun : Type 0 where
   pub lacks : Lacks
   pub acts : List (Act Deed)
   pub valid : IsValid wiring
+  pub closed : is_closed wiring ≡ true
   pub few : workers ≤ most_workers
   pub steps : IsPlayedRun wiring workers lacks acts
 

@@ -2,6 +2,7 @@
 
 ghost use Rattle.std.specs.Prelude.{◌≡◌, ◌≤◌, [], length, IfOk, IfErr, IfSome, IfNone, OnErr, OnOk, Some, is_some, true};
 ghost use Rattle.ccr_base.specs.Bounds.{most_actors};
+ghost use Rattle.ccr_wiring.specs.Openness.{is_closed};
 ghost use Rattle.ccr_model.specs.Firings.{fired};
 ghost use Rattle.ccr_model.specs.Legal.{IsAllowed, IsLegal, IsQuiet, is_complete};
 ghost use Rattle.ccr_model.specs.Order.{most_attempts, next_attempt, IsFinished};
@@ -54,6 +55,7 @@ fn resumed<'w>(
     closer: ActorNo,
     events: &[Event],
 ) -> Result<Box<Engine<'w>>, OutOfMemory>
+    requires closed { is_closed wiring.now ≡ true }
     requires no_poster { length wiring.now.posters ≤ closer }
     requires low { closer ≤ most_actors }
     requires legal { IsLegal wiring.now events.now }
@@ -68,6 +70,7 @@ fn resumed<'w>(
 impl<'w> Serial<'w> {
     /// An engine with the empty history.
     pub fn start(alloc: Global, wiring: &'w Wiring, closer: ActorNo) -> Result<Self, OutOfMemory>
+        requires closed { is_closed wiring.now ≡ true }
         requires no_poster { length wiring.now.posters ≤ closer }
         requires low { closer ≤ most_actors }
         ensures { IfOk result (λ engine. engine ≡ record { wiring = wiring.now; closer = closer; history = [] }) }
@@ -92,6 +95,7 @@ impl<'w> Serial<'w> {
         closer: ActorNo,
         history: History,
     ) -> Result<Self, (OutOfMemory, History)>
+        requires closed { is_closed wiring.now ≡ true }
         requires no_poster { length wiring.now.posters ≤ closer }
         requires low { closer ≤ most_actors }
         requires legal { IsLegal wiring.now history }

@@ -16,6 +16,7 @@ use Rattle.ccr_handler.specs.declared.segments.PlayEnd.TheVariants as plays
 use Rattle.ccr_wiring.specs.declared.parts.Parts.{Parts}
 use Rattle.ccr_wiring.specs.Valid.{IsValid}
 use Rattle.ccr_wiring.proofs.Soundness.{sound}
+use Rattle.ccr_model.proofs.Closed.{own_end}
 use Rattle.ccr_model.specs.declared.history.Event.{Event}
 use Rattle.ccr_model.specs.declared.history.Event.TheVariants.{Fire, End}
 use Rattle.ccr_model.specs.declared.history.EndHow.{EndHow}
@@ -168,7 +169,7 @@ ends_whole s h legal unshed t how has =
     let a = refused_not (has_task (running past) t) _ _ allowed in
     let b = (refused_not (may_end w past t how) _ None a.1).0 in
     let plain : is_shed how ≡ false = unshed_how h past t how unshed has.stands in
-    let c : not (has_post_left w past t) && ends_so how (play_of w past t).end ≡ true = subst (λ x. (if x then may_shed w past t else not (has_post_left w past t) && ends_so how (play_of w past t).end) ≡ true) plain b in
+    let c : not (has_post_left w past t) && ends_so how (play_of w past t).end ≡ true = subst (λ x. (if x then may_shed w past t else not (has_post_left w past t) && ends_so how (play_of w past t).end) ≡ true) plain (own_end w refl past t how b) in
     let parts = both (not (has_post_left w past t)) (ends_so how (play_of w past t).end) c in
     let fired = running_fired w past before t a.0 in
     let one = one_play s past before t fired in

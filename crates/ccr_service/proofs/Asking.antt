@@ -62,10 +62,10 @@ pub ask_posted : (s : ServiceParts) (h : List Event) → IsLegal (expansion s) h
 ask_posted s h legal complete client index part ask is_client is_ask =
     let e : 0 + client ≡ client = omega arith in
     let poster : slice_get (expansion s).posters client ≡ Some (poster_of client part) = poster_here 0 client s.clients part is_client ∙ ap (λ i. Some (poster_of i part)) e in
-    let all = whole (expansion s) h legal complete client (poster_of client part) poster in
+    let all = whole (expansion s) h legal complete client (poster_of client part) poster refl in
     let line : slice_get (map sent_of (posts_by h client)) index ≡ Some (request client ask) = ap (λ (xs : List Sent). slice_get xs index) all ∙ slice_get-map (request client) part.asks index ∙ ap (option_map (request client)) is_ask in
     let found = of_mapped sent_of (posts_by h client) index (request client ask) line in
-    let name = (follow (expansion s) h legal client (poster_of client part) poster).names index found.0 found.1 in
+    let name = (follow (expansion s) h legal client (poster_of client part) poster refl).names index found.0 found.1 in
     let among = (Among-filter (λ (m : Msg). is_script_of client m.id) (posts h) found.0 (Among-at (posts_by h client) index found.0 found.1)).0 in
     let sent : found.0 ≡ message_of found.0.id (sent_of found.0) = refl in
     let named : message_of found.0.id (sent_of found.0) ≡ message_of (Script client index) (sent_of found.0) = ap (λ n. message_of n (sent_of found.0)) name in

@@ -12,6 +12,7 @@ use Rattle.ccr_handler.specs.Playing.{play}
 use Rattle.ccr_cause.specs.Causes.{with_cause, without_cause}
 use Rattle.ccr_wiring.specs.declared.parts.Parts.{Parts}
 use Rattle.ccr_wiring.specs.Wirings.{Placement, placement, actions_of, awaited, site_port, exception_port, actions_at}
+use Rattle.ccr_model.proofs.Closed.{yield_end}
 use Rattle.ccr_model.specs.declared.history.Event.{Event}
 use Rattle.ccr_model.specs.declared.history.Event.TheVariants.{Post, Fire, Admit, Put, Start, End}
 use Rattle.ccr_model.specs.declared.history.EndHow.TheVariants as ends
@@ -101,7 +102,7 @@ yield_refused : (w : Parts) → HasNoAwaits w → (h : List Event) (t : TaskId) 
 yield_refused w none h t known allowed =
     let a = refused_not (has_task (running h) t) _ _ allowed in
     let b = (refused_not (may_end w h t ends.Yield) _ None a.1).0 in
-    let parts = both (not (has_post_left w h t)) (ends_so ends.Yield (play_of w h t).end) b in
+    let parts = both (not (has_post_left w h t)) (ends_so ends.Yield (play_of w h t).end) (yield_end w h t b) in
     no_both parts.1 (no_yield w none h known t)
 
 yields_kept : (w : Parts) → HasNoAwaits w → (h : List Event) (e : Event) → Goes h → IsAllowed w h e → yielded (h ++ e ∷ []) ≡ []

@@ -309,7 +309,7 @@ none_shed s apart small h legal complete = refuted (has_shed h) shed_so
         let some = some_shed h is in
         let t = some.0 in
         let facts = all_shed s h legal t some.1 in
-        let spent : posts_of_tasks h ≡ 10000 = same_number (posts_of_tasks h) 10000 (budget (posts_of_tasks h == 10000) is (both (are_whole_from h 0 (expansion s).posters) _ complete).1) in
+        let spent : posts_of_tasks h ≡ 10000 = same_number (posts_of_tasks h) 10000 (budget (posts_of_tasks h == 10000) is (both (are_whole_from (expansion s) h 0 (expansion s).posters) _ complete).1) in
         let long = posting_length (posts h) in
         let first : AllFirst (posts h) = λ m among u k named. (all_replies s h legal m among u k named).first in
         let apart_tasks = posting_apart (posts h) (posted_once (expansion s) h legal) first in

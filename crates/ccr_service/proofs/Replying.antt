@@ -11,6 +11,7 @@ use Rattle.ccr_base.specs.declared.messages.Sent.{Sent}
 use Rattle.ccr_base.specs.Names.{same_message, has_task}
 use Rattle.ccr_handler.specs.declared.segments.Play.{Play}
 use Rattle.ccr_wiring.specs.declared.parts.Parts.{Parts}
+use Rattle.ccr_model.proofs.Closed.{own_post}
 use Rattle.ccr_model.specs.declared.history.Event.{Event}
 use Rattle.ccr_model.specs.declared.history.Event.TheVariants.{Post, Fire, Admit, Put, Start, End}
 use Rattle.ccr_model.specs.Posts.{posts, post_of, posts_of_task, is_message_of}
@@ -74,7 +75,7 @@ reply_now : (s : ServiceParts) (h : List Event) → IsLegal (expansion s) h → 
 reply_now s h legal m t k allowed =
     let w = expansion s in
     let line = (refused_not (is_play_post w h t k m) _ _ allowed).0 in
-    let parts = both (has_task (running h) t && (k == posts_of_task h t)) (option_map_or (is_post m) (slice_get (play_of w h t).posts k) false) line in
+    let parts = both (has_task (running h) t && (k == posts_of_task h t)) (option_map_or (is_post m) (slice_get (play_of w h t).posts k) false) (own_post w refl h t k m line) in
     let front = both (has_task (running h) t) (k == posts_of_task h t) parts.0 in
     let its = some_of (is_post m) (slice_get (play_of w h t).posts k) parts.1 in
     let fired = running_fired w h legal t front.0 in

@@ -19,6 +19,7 @@ use Rattle.ccr_wiring.specs.declared.parts.Parts.{Parts}
 use Rattle.ccr_wiring.specs.declared.parts.PosterPart.{PosterPart}
 use Rattle.ccr_wiring.specs.declared.parts.CausePart.{CausePart}
 use Rattle.ccr_wiring.specs.Wirings.{Placement, placement, branch_of, segment_of, actions_of, exception_port}
+use Rattle.ccr_model.proofs.Closed.{own_line, own_post}
 use Rattle.ccr_model.specs.declared.history.Event.{Event}
 use Rattle.ccr_model.specs.declared.history.Event.TheVariants.{Post}
 use Rattle.ccr_model.specs.Posts.{posts, posts_of_poster, posts_of_task, message_named}
@@ -68,7 +69,7 @@ ask_at client (suc k) (a ∷ asks) x is = ask_at client k asks x is
 asked_now : (s : ServiceParts) (h : List Event) (m : Msg) (client index : ℕ) → refusal_of_post (expansion s) h m (Script client index) ≡ None → IsAsked s m client index
 asked_now s h m client index allowed =
     let line = (refused_not (is_script_line (expansion s) h client index m) _ None allowed).0 in
-    let parts = both (index == posts_of_poster h client) (option_map_or (is_post m) (option_and_then (λ (p : PosterPart). slice_get p.posts index) (slice_get (expansion s).posters client)) false) line in
+    let parts = both (index == posts_of_poster h client) (option_map_or (is_post m) (option_and_then (λ (p : PosterPart). slice_get p.posts index) (slice_get (expansion s).posters client)) false) (own_line (expansion s) refl h client index m line) in
     let its = some_of (is_post m) (option_and_then (λ (p : PosterPart). slice_get p.posts index) (slice_get (expansion s).posters client)) parts.1 in
     let poster = some_then (λ (p : PosterPart). slice_get p.posts index) (slice_get (expansion s).posters client) its.0 its.1 in
     let found = poster_at 0 client s.clients poster.0 poster.1 in
@@ -126,7 +127,7 @@ play_elsewhere s b r is load index x got op few at = by_role facts.serves.role
 elsewhere_now : (s : ServiceParts) (h : List Event) → IsLegal (expansion s) h → (m : Msg) (t : TaskId) (index : ℕ) → refusal_of_post (expansion s) h m (Task t index) ≡ None → NoRequests s m.port
 elsewhere_now s h legal m t index allowed op few at =
     let line = (refused_not (is_play_post (expansion s) h t index m) _ _ allowed).0 in
-    let parts = both (has_task (running h) t && (index == posts_of_task h t)) (option_map_or (is_post m) (slice_get (play_of (expansion s) h t).posts index) false) line in
+    let parts = both (has_task (running h) t && (index == posts_of_task h t)) (option_map_or (is_post m) (slice_get (play_of (expansion s) h t).posts index) false) (own_post (expansion s) refl h t index m line) in
     let its = some_of (is_post m) (slice_get (play_of (expansion s) h t).posts index) parts.1 in
     let post = IsPost-test m its.0 its.2 in
     by_firing its.0 (firing_named h t) refl its.1 (sym post.port ∙ at)

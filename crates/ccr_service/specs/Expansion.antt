@@ -113,4 +113,6 @@ expansion service = record {
   arbiters = interleave service.ops ∷ [];
   domains = [];
   posters = posters_from 0 service.clients;
+  open_posters = [];
+  open_handlers = [];
 }

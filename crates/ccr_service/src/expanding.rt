@@ -267,6 +267,8 @@ fn parts(alloc: Global, service: &ServiceParts) -> Result<Parts, OutOfMemory>
         arbiters: List::from_vec(vec![in alloc; interleave(alloc, ops)?]?),
         domains: List::new(alloc),
         posters: posters(alloc, service)?,
+        open_posters: List::new(alloc),
+        open_handlers: List::new(alloc),
     })
 }
 

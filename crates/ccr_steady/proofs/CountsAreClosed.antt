@@ -25,6 +25,7 @@ use Rattle.ccr_wiring.specs.Valid.{IsValid, IsSound}
 use Rattle.ccr_wiring.specs.Limits.{policy_is_outside}
 use Rattle.ccr_wiring.proofs.Validity.{policy_inside}
 use Rattle.ccr_wiring.proofs.Soundness.{sound}
+use Rattle.ccr_model.proofs.Closed.{ends_spent}
 use Rattle.ccr_handler.specs.Playing.{play}
 use Rattle.ccr_model.specs.declared.history.Event.{Event}
 use Rattle.ccr_model.specs.declared.history.Event.TheVariants as events
@@ -112,8 +113,7 @@ end_done w h t how legal allowed old unshed u is = by (has_task (ended h) u) ref
         let same : u ≡ t = same_task-is u t mine in
         let a = refused_not (has_task (running h) t) _ _ allowed in
         let may = (refused_not (may_end w h t how) _ None a.1).0 in
-        let ways : not (has_post_left w h t) && Rattle.ccr_model.specs.Rules.ends_so how (play_of w h t).end ≡ true = subst (λ (b : Bool). (if b then Rattle.ccr_model.specs.Rules.may_shed w h t else not (has_post_left w h t) && Rattle.ccr_model.specs.Rules.ends_so how (play_of w h t).end) ≡ true) (not_shed how t parts.1) may in
-        let none = not_true (has_post_left w h t) (both (not (has_post_left w h t)) _ ways).0 in
+        let none = not_true (has_post_left w h t) (ends_spent w h t how (not_shed how t parts.1) may) in
         let runs = RunningFacts-running h t a.0 in
         subst (λ (x : TaskId). has_post_left w (h ++ events.End t how ∷ []) x ≡ false) (sym same) (stays_done w h (events.End t how) t (started_fired w h legal t runs.started_so) none)
 
@@ -163,10 +163,10 @@ none_due w sound steady h legal quiet unshed weight = none_due_of w weight (post
 
 pub full : (w : Parts) → IsSound w → IsSteady w → (h : List Event) → IsLegal w h → IsQuiet w h → is_complete w h ≡ true → has_shed h ≡ false → (port : ℕ) → posted_at port (posts h) ≡ got w (times_at (firings h)) port
 full w sound steady h legal quiet complete unshed port =
-    let whole = (both (are_whole_from h 0 w.posters) _ complete).0 in
+    let whole = (both (are_whole_from w h 0 w.posters) _ complete).0 in
     let a = balance w steady h legal port in
     let b = none_due w sound steady h legal quiet unshed (at_port port) in
-    let c = none_left (at_port port) h 0 w.posters whole in
+    let c = none_left w steady.closed (at_port port) h 0 w.posters whole in
     omega (arith, a, b, c)
 
 -- ---- a branch that lacks nothing could fire

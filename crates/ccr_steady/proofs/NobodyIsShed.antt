@@ -130,7 +130,7 @@ some_due w ms (g ∷ fs) f (inr more) less = let rest = some_due w ms fs f more 
 
 -- a complete history has no shed end where some closed list has no more task posts than the budget
 pub none_shed : (w : Parts) → IsValid w → IsSteady w → (n : ℕ → ℕ) → IsClosed w n → task_posts w n ≤ w.budget → (h : List Event) → IsLegal w h → is_complete w h ≡ true → has_shed h ≡ false
-none_shed w valid steady n closed cheap h legal complete = by (has_shed h) refl (both (are_whole_from h 0 w.posters) (not (has_shed h) || (posts_of_tasks h == w.budget)) complete).1
+none_shed w valid steady n closed cheap h legal complete = by (has_shed h) refl (both (are_whole_from w h 0 w.posters) (not (has_shed h) || (posts_of_tasks h == w.budget)) complete).1
   where
     by : (b : Bool) → has_shed h ≡ b → not (has_shed h) || (posts_of_tasks h == w.budget) ≡ true → b ≡ false
     by false e is = refl

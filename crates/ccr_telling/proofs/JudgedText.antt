@@ -2,6 +2,7 @@
 use Rattle.std.proofs.Common.{◌≡◌, ◌∙◌, ℕ, ◌+◌, true, false, List, [], ◌∷◌, ◌++◌, length, Option, Some, None, refl, sym, ap, subst, arith}
 use Rattle.std.specs.Prelude.{is_some}
 use Rattle.ccr_wiring.specs.declared.parts.Parts.{Parts}
+use Rattle.ccr_wiring.specs.Openness.{is_closed}
 use Rattle.ccr_model.specs.declared.history.Event.{Event}
 use Rattle.ccr_model.specs.declared.rule.Rule.{Rule}
 use Rattle.ccr_model.specs.Rules.{refusal}
@@ -45,11 +46,11 @@ judged_refused old now next judged new tallies counted e at rule so_far read ask
 
 -- the event is accepted and counted
 pub judged_accepted : (old now next : Reader) (judged new : Judged) (tallies counted : Tallies) (e : Event) → IsJudgedSoFar old now judged tallies None → HasRead now e next → None ≡ refusal judged.wiring judged.history e
-    → new ≡ record judged { history = judged.history ++ e ∷ [] } → (IsCounting judged.wiring judged.history tallies → IsCounting judged.wiring (judged.history ++ e ∷ []) counted) → IsJudgedSoFar old next new counted None
+    → new ≡ record judged { history = judged.history ++ e ∷ [] } → (is_closed judged.wiring ≡ true → IsCounting judged.wiring judged.history tallies → IsCounting judged.wiring (judged.history ++ e ∷ []) counted) → IsJudgedSoFar old next new counted None
 judged_accepted old now next judged new tallies counted e so_far read asked accepted counts =
     let agrees = so_far.agrees refl in
     let before = subst (λ (j : Judged). IsCounting j.wiring j.history tallies) (sym agrees.accepted) agrees.counted in
-    let after = subst (λ (j : Judged). IsCounting j.wiring (j.history ++ e ∷ []) counted) agrees.accepted (counts before) in
+    let after = subst (λ (j : Judged). IsCounting j.wiring (j.history ++ e ∷ []) counted) agrees.accepted (counts (subst (λ (j : Judged). is_closed j.wiring ≡ true) (sym agrees.accepted) agrees.closed) before) in
     record {
       wiring = read.wiring ∙ so_far.wiring;
       reads = read.reads ∙ so_far.reads;
@@ -57,6 +58,7 @@ judged_accepted old now next judged new tallies counted e so_far read asked acce
       agrees = λ is. record {
         accepted = accepted ∙ (ap (λ (j : Judged). judged_of j.wiring (j.history ++ e ∷ [])) agrees.accepted ∙ (ap (λ w. judged_of w (now.so_far.history ++ e ∷ [])) (sym read.wiring) ∙ ap (judged_of next.wiring) (sym read.history)));
         counted = subst (λ (h : List Event). IsCounting next.wiring h counted) (sym read.history) (subst (λ (w : Parts). IsCounting w (now.so_far.history ++ e ∷ []) counted) (sym read.wiring) after);
+        closed = subst (λ (w : Parts). is_closed w ≡ true) (sym read.wiring) agrees.closed;
       };
     }
 
@@ -71,6 +73,6 @@ judged_refused_if None none old now next judged new tallies counted e at rule so
 judged_refused_if (Some before) none old now next judged new tallies counted e at rule so_far read asked here = absurd (cc)
 
 pub judged_accepted_if : (refused : Option (ℕ × Rule)) → is_some refused ≡ false → (old now next : Reader) (judged new : Judged) (tallies counted : Tallies) (e : Event) → IsJudgedSoFar old now judged tallies refused → HasRead now e next → None ≡ refusal judged.wiring judged.history e
-    → new ≡ record judged { history = judged.history ++ e ∷ [] } → (IsCounting judged.wiring judged.history tallies → IsCounting judged.wiring (judged.history ++ e ∷ []) counted) → IsJudgedSoFar old next new counted refused
+    → new ≡ record judged { history = judged.history ++ e ∷ [] } → (is_closed judged.wiring ≡ true → IsCounting judged.wiring judged.history tallies → IsCounting judged.wiring (judged.history ++ e ∷ []) counted) → IsJudgedSoFar old next new counted refused
 judged_accepted_if None none old now next judged new tallies counted e so_far read asked accepted counts = judged_accepted old now next judged new tallies counted e so_far read asked accepted counts
 judged_accepted_if (Some before) none old now next judged new tallies counted e so_far read asked accepted counts = absurd (cc)

@@ -1,6 +1,7 @@
 -- What is found of a history's text, judged while it is read.
-use Rattle.std.specs.Prelude.{◌≡◌, ℕ, List, [], length, Option, Some, None, Ok}
+use Rattle.std.specs.Prelude.{◌≡◌, true, ℕ, List, [], length, Option, Some, None, Ok}
 use Rattle.ccr_wiring.specs.declared.parts.Parts.{Parts}
+use Rattle.ccr_wiring.specs.Openness.{is_closed}
 use Rattle.ccr_model.specs.declared.history.Event.{Event}
 use Rattle.ccr_model.specs.declared.rule.Rule.{Rule}
 use Rattle.ccr_model.specs.Legal.{IsLegal, first_refusal, is_complete}
@@ -35,10 +36,11 @@ pub record IsJudged (wiring : Parts) (text : List ℕ) (judgement : Judgement) :
   pub reads : reading wiring text ≡ Ok read
   pub judged : IsJudgedHistory wiring read judgement
 
--- as long as nothing was refused the judge accepted what was read, and it was counted
+-- as long as nothing was refused the judge accepted what was read, and it was counted; the wiring is closed
 pub record AgreesSoFar (reader : Reader) (judged : Judged) (tallies : Tallies) : Type 0 where
   pub accepted : judged ≡ record { wiring = reader.wiring; history = reader.so_far.history }
   pub counted : IsCounting reader.wiring reader.so_far.history tallies
+  pub closed : is_closed reader.wiring ≡ true
 
 -- what is read in the end stays the same, this was refused first so far, and as long as nothing was, the judge agrees
 pub record IsJudgedSoFar (old now : Reader) (judged : Judged) (tallies : Tallies) (refused : Option (ℕ × Rule)) : Type 0 where

@@ -1,5 +1,5 @@
 -- Numbers that grow event by event.
-use Rattle.std.specs.Prelude.{◌≡◌, ◌≤◌, ◌<◌, ◌-◌, ◌^◌, ℕ, ◌+◌, ◌*◌, ◌==◌, Bool, false, nat_lt, List, [], ◌∷◌, ◌++◌, length, filter, replicate, Option, Some, None, option_to_list, if◌then◌else◌}
+use Rattle.std.specs.Prelude.{true, ◌≡◌, ◌≤◌, ◌<◌, ◌-◌, ◌^◌, ℕ, ◌+◌, ◌*◌, ◌==◌, Bool, false, nat_lt, List, [], ◌∷◌, ◌++◌, length, filter, replicate, Option, Some, None, option_to_list, if◌then◌else◌}
 use Rattle.std.specs.Option.{option_map_or}
 use Rattle.ccr_base.specs.Bounds.{most_sites}
 use Rattle.ccr_base.specs.declared.names.TaskId.{TaskId}
@@ -8,6 +8,7 @@ use Rattle.ccr_base.specs.declared.names.Spot.{Spot}
 use Rattle.ccr_base.specs.declared.names.Spot.TheVariants.{Branch, Site}
 use Rattle.ccr_wiring.specs.declared.parts.Parts.{Parts}
 use Rattle.ccr_wiring.specs.Valid.{IsValid}
+use Rattle.ccr_wiring.specs.Openness.{is_closed}
 use Rattle.ccr_model.specs.declared.history.Event.{Event}
 use Rattle.ccr_model.specs.declared.history.Event.TheVariants.{Post, Fire, Put, End}
 use Rattle.ccr_model.specs.declared.history.EndHow.{EndHow}
@@ -195,10 +196,11 @@ pub record IsCounting (wiring : Parts) (history : List Event) (tallies : Tallies
   pub counted : (books : Books) → Keeps wiring history books → AreTallies (length wiring.ports) all_indices (length wiring.queues) books history tallies
   pub few : AreFew (length history) tallies
 
--- where the tables and the old numbers are those of a history of a valid wiring, and the event may come behind it, the new numbers are those of the history with the event
+-- where the tables and the old numbers are those of a history of a valid closed wiring, and the event may come behind it, the new numbers are those of the history with the event
 abbrev pub CountsNext : Parts → List Event → Books → Event → Tallies → Tallies → Type 0
 CountsNext wiring history books event old new =
     IsValid wiring →
+    is_closed wiring ≡ true →
     Keeps wiring history books →
     IsLegal wiring (history ++ event ∷ []) →
     IsCounting wiring history old →

@@ -1,7 +1,8 @@
 //! The serial order behind a history, to its end.
 
-ghost use Rattle.std.specs.Prelude.{◌≡◌, ◌≤◌, IfOk, length};
+ghost use Rattle.std.specs.Prelude.{◌≡◌, ◌≤◌, true, IfOk, length};
 ghost use Rattle.ccr_base.specs.Bounds.{most_actors};
+ghost use Rattle.ccr_wiring.specs.Openness.{is_closed};
 ghost use Rattle.ccr_model.specs.Firings.{fired};
 ghost use Rattle.ccr_model.specs.Legal.{IsLegal};
 ghost use Rattle.ccr_model.specs.Order.{most_attempts, next_attempt};
@@ -31,6 +32,7 @@ fn engine_behind<'w>(
     closer: ActorNo,
     first: &History,
 ) -> Result<(Box<Engine<'w>>, Tally), OutOfMemory>
+    requires closed { is_closed wiring.now ≡ true }
     requires no_poster { length wiring.now.posters ≤ closer }
     requires low { closer ≤ most_actors }
     requires legal { IsLegal wiring.now first.now }
@@ -53,6 +55,7 @@ fn telling_behind<'w>(
     closer: ActorNo,
     first: History,
 ) -> Result<(Box<Engine<'w>>, Telling<'w>), OutOfMemory>
+    requires closed { is_closed wiring.now ≡ true }
     requires no_poster { length wiring.now.posters ≤ closer }
     requires low { closer ≤ most_actors }
     requires legal { IsLegal wiring.now first }
@@ -72,6 +75,7 @@ fn counting_behind<'w>(
     closer: ActorNo,
     first: History,
 ) -> Result<(Box<Engine<'w>>, Counting), OutOfMemory>
+    requires closed { is_closed wiring.now ≡ true }
     requires no_poster { length wiring.now.posters ≤ closer }
     requires low { closer ≤ most_actors }
     requires legal { IsLegal wiring.now first }
@@ -91,6 +95,7 @@ pub fn tell_to_end(
     closer: ActorNo,
     first: History,
 ) -> Result<Told, OutOfMemory>
+    requires closed { is_closed wiring.now ≡ true }
     requires no_poster { length wiring.now.posters ≤ closer }
     requires low { closer ≤ most_actors }
     requires legal { IsLegal wiring.now first }
@@ -112,6 +117,7 @@ pub fn count_to_end(
     closer: ActorNo,
     first: History,
 ) -> Result<Counts, OutOfMemory>
+    requires closed { is_closed wiring.now ≡ true }
     requires no_poster { length wiring.now.posters ≤ closer }
     requires low { closer ≤ most_actors }
     requires legal { IsLegal wiring.now first }

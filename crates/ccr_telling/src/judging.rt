@@ -1,7 +1,8 @@
 //! A history's text judged while it is read.
 
-ghost use Rattle.std.specs.Prelude.{◌≡◌, ◌≤◌, ◌++◌, ◌∷◌, [], Err, IfErr, IfNone, IfOk, Ok, OnOk, length};
+ghost use Rattle.std.specs.Prelude.{◌≡◌, ◌≤◌, ◌++◌, ◌∷◌, [], Err, IfErr, IfNone, IfOk, Ok, OnOk, length, true};
 ghost use Rattle.ccr_base.specs.Bounds.{most_bytes};
+ghost use Rattle.ccr_wiring.specs.Openness.{is_closed};
 ghost use Rattle.ccr_model.specs.Rules.{refusal};
 ghost use Rattle.ccr_telling.specs.Tallies.{IsCounting};
 ghost use Rattle.ccr_trace.specs.Answers.{IsReading};
@@ -44,7 +45,7 @@ fn judge_event(
 ) -> Result<Option<Rule>, OutOfMemory>
     ensures rule { IfOk result (λ rule. rule ≡ refusal checker.old.wiring checker.old.history event.now) }
     ensures accepted { IfOk result (λ rule. IfNone rule (checker.new ≡ record checker.old { history = checker.old.history ++ event.now ∷ [] })) }
-    ensures counted { IfOk result (λ rule. IfNone rule (IsCounting checker.old.wiring checker.old.history tally.old → IsCounting checker.old.wiring (checker.old.history ++ event.now ∷ []) tally.new)) }
+    ensures counted { IfOk result (λ rule. IfNone rule (is_closed checker.old.wiring ≡ true → IsCounting checker.old.wiring checker.old.history tally.old → IsCounting checker.old.wiring (checker.old.history ++ event.now ∷ []) tally.new)) }
 {
     let rule = checker.refusal(event)?;
     if rule.is_some() {
@@ -154,6 +155,7 @@ fn judge_history(
     wiring: &Wiring,
     reader: &mut EventReader<'_>,
 ) -> Result<Judgement, HistoryRefused>
+    requires closed { is_closed wiring.now ≡ true }
     requires none { reader.old.so_far.history ≡ [] }
     requires wiring { reader.old.wiring ≡ wiring.now }
     ensures reads { IfOk result (λ judgement. reading_of reader.old ≡ Ok reader.new.so_far) }
@@ -168,7 +170,8 @@ fn judge_history(
 
 /// What is found of the history that a text begins with. Each event is judged when its line is read, and isn't kept.
 pub fn judge_text(alloc: Global, wiring: &Wiring, text: &[u8]) -> Result<Judgement, HistoryRefused>
-    requires { length text.now ≤ most_bytes }
+    requires closed { is_closed wiring.now ≡ true }
+    requires few { length text.now ≤ most_bytes }
     ensures judged { IfOk result (IsJudged wiring.now text.now) }
     ensures refused { IfErr result (λ refusal. IsReading (Err refusal) (reading wiring.now text.now)) }
 {

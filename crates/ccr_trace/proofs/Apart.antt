@@ -10,7 +10,7 @@ use Rattle.std.proofs.lemmas.Slice.Eq.{bytes_eq-Decides}
 use Rattle.ccr_wiring.specs.declared.parts.ArbiterPart.{ArbiterPart}
 use Rattle.ccr_wiring.specs.declared.parts.BranchPart.{BranchPart}
 use Rattle.ccr_wiring.specs.declared.parts.Parts.{Parts}
-use Rattle.ccr_wiring.specs.Groups.{is_receive, is_one_named, is_misgrouped, has_strange_group}
+use Rattle.ccr_wiring.specs.Groups.{is_receive, is_one_named, is_misgrouped, has_strange_group, has_scripted}
 use Rattle.ccr_wiring.specs.Names.{queue_names, set_names, cause_names as names_of_causes, handler_names, poster_names, arbiter_names, declared_names, has_name, has_repeated}
 use Rattle.ccr_text.specs.Words.{is_name_of}
 use Rattle.ccr_wiring.specs.Valid.{IsValid}
@@ -125,7 +125,7 @@ apart (arbiter ∷ arbiters) grouped e =
     ap has_repeated (flat_map-cons branch_names_of arbiter arbiters) ∙ apart_right front.0 (branch_names_of arbiter ++ flat_map branch_names_of arbiters) (ap has_repeated (sym (append_assoc front.0 (branch_names_of arbiter) (flat_map branch_names_of arbiters))) ∙ kept)
 
 pub branches_apart : (parts : Parts) → IsValid parts → has_repeated (branch_names parts) ≡ false
-branches_apart parts valid = apart parts.arbiters (no_codes parts valid).groups (arbiters_apart parts valid)
+branches_apart parts valid = apart parts.arbiters (neither (list_any is_misgrouped parts.arbiters) (has_scripted parts) (no_codes parts valid).groups).0 (arbiters_apart parts valid)
 
 counted : (number : ℕ) (arbiters : List ArbiterPart) → length (flat_map branch_names_of arbiters) ≡ length (placements_from number arbiters)
 counted number [] = refl
@@ -165,5 +165,5 @@ are_formed parts valid =
     record {
       ports = (any_parts test q parts.ports one).1;
       causes = caused.1;
-      branches = none_passes test parts.arbiters (no_codes parts valid).groups last.1;
+      branches = none_passes test parts.arbiters (neither (list_any is_misgrouped parts.arbiters) (has_scripted parts) (no_codes parts valid).groups).0 last.1;
     }

@@ -52,4 +52,6 @@ one_receiver = record {
   arbiters = one_receive;
   domains = [];
   posters = [];
+  open_posters = [];
+  open_handlers = [];
 }

@@ -102,5 +102,7 @@ pub fn one_receiver(alloc: Global) -> Result<Parts, OutOfMemory>
         arbiters: one_receive(alloc)?,
         domains: List::new(alloc),
         posters: List::new(alloc),
+        open_posters: List::new(alloc),
+        open_handlers: List::new(alloc),
     })
 }

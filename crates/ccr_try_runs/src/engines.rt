@@ -19,7 +19,7 @@ use ccr_service::{Answer, Service, answers, expand, read_service};
 use ccr_trace::write_history;
 use ccr_try::{first_number, numbers_of, put, put_number, put_word, text_of};
 use ccr_wiretext::MAX_WIRING_TEXT;
-use ccr_wiring::Wiring;
+use ccr_wiring::{Wiring, is_closed};
 use std::alloc::Global;
 
 /// What is visible of a run without workers.
@@ -39,6 +39,9 @@ fn finished(alloc: Global, wiring: &Wiring, first: History) -> Result<History, O
     requires legal { IsLegal wiring.now first }
     requires attempts { next_attempt (actor_count wiring.now 0) (fired first) ≤ most_attempts }
 {
+    if !is_closed(wiring.parts()) {
+        return Err(OutOfMemory);
+    }
     match Serial::resume(alloc, wiring, actor_count(wiring, 0), first) {
         Ok(engine) => engine.finish(),
         Err(_) => Err(OutOfMemory),
@@ -119,6 +122,9 @@ fn put_counts(engine: &mut Serial<'_>, out: &mut List<u8>) {
 
 /// How many events the engine has after each step.
 pub fn engine(alloc: Global, wiring: &Wiring, out: &mut List<u8>) {
+    if !is_closed(wiring.parts()) {
+        return;
+    }
     if let Ok(mut engine) = Serial::start(alloc, wiring, actor_count(wiring, 0)) {
         put_counts(&mut engine, out);
     }
@@ -126,6 +132,9 @@ pub fn engine(alloc: Global, wiring: &Wiring, out: &mut List<u8>) {
 
 /// How many events the engine has at the end, which goes on from none.
 pub fn resume(alloc: Global, wiring: &Wiring, out: &mut List<u8>) {
+    if !is_closed(wiring.parts()) {
+        return;
+    }
     let resumed = Serial::resume(alloc, wiring, actor_count(wiring, 1), History::new(alloc));
     if let Ok(engine) = resumed {
         if let Ok(history) = engine.finish() {
@@ -156,6 +165,9 @@ fn whole(alloc: Global, wiring: &Wiring) -> Result<History, OutOfMemory>
     ensures complete { IfOk result (λ history. is_complete wiring.now history ≡ true) }
     ensures quiet { IfOk result (IsQuiet wiring.now) }
 {
+    if !is_closed(wiring.parts()) {
+        return Err(OutOfMemory);
+    }
     Serial::start(alloc, wiring, actor_count(wiring, 0))?.finish()
 }
 

@@ -10,7 +10,7 @@ use ccr_places::Note;
 use ccr_plain::PlainNet;
 use ccr_runs::Full;
 use ccr_try::{put_spot, put_truth, put_word};
-use ccr_wiring::Wiring;
+use ccr_wiring::{Wiring, is_closed};
 use std::alloc::Global;
 
 /// Brings the actor of this number from its first step to rest, and answers how many steps it made; none where memory runs out.
@@ -47,6 +47,9 @@ fn put_full(out: &mut List<u8>, full: &Full, steps: u64) {
 
 /// The run of the first actor to its rest, and then of the second, and how many steps they made.
 fn rested(alloc: Global, wiring: &Wiring) -> Result<(Full, u64), OutOfMemory> {
+    if !is_closed(wiring.parts()) {
+        return Err(OutOfMemory);
+    }
     let mut net = PlainNet::start(alloc, wiring)?;
     let posted = rest_one(alloc, wiring, &mut net, 0);
     let worked = rest_one(alloc, wiring, &mut net, 1);

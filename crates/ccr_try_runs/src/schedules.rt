@@ -10,7 +10,7 @@ use ccr_plain::run_short;
 use ccr_replay::{schedule_of, steps_text};
 use ccr_runs::Full;
 use ccr_try::{first_number, numbers_of, put, put_number, put_numbers, put_word};
-use ccr_wiring::Wiring;
+use ccr_wiring::{Wiring, is_closed};
 use std::alloc::Global;
 
 /// The run of the turns, with so many workers.
@@ -20,7 +20,10 @@ fn run(
     workers: u32,
     turns: &[ActorNo],
 ) -> Result<Full, OutOfMemory> {
-    if workers > MAX_WORKERS || !are_below(turns, actor_count(wiring, workers)) {
+    if workers > MAX_WORKERS
+        || !are_below(turns, actor_count(wiring, workers))
+        || !is_closed(wiring.parts())
+    {
         return Err(OutOfMemory);
     }
     run_schedule(alloc, wiring, workers, turns)
@@ -35,7 +38,7 @@ pub fn shortened(
 ) -> Result<Full, OutOfMemory>
     ensures { IfOk result (λ full. IsRun wiring.now 0 full.entries) }
 {
-    if !are_below(turns, actor_count(wiring, 0)) {
+    if !are_below(turns, actor_count(wiring, 0)) || !is_closed(wiring.parts()) {
         return Err(OutOfMemory);
     }
     run_short(alloc, wiring, 0, turns, &[refused])

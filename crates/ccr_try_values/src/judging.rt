@@ -4,7 +4,7 @@ use ccr_base::List;
 use ccr_check::{Judge, Verdict, verdict};
 use ccr_model::{Event, History, refused_by};
 use ccr_try::{put, put_number, put_truth, put_word};
-use ccr_wiring::Wiring;
+use ccr_wiring::{Wiring, is_closed};
 use std::alloc::Global;
 
 /// Adds a copy of the event.
@@ -37,7 +37,7 @@ pub fn allowed(alloc: Global, wiring: &Wiring, events: &[Event], out: &mut List<
 
 /// What the judge says of the whole.
 pub fn verdict_of(alloc: Global, wiring: &Wiring, history: &History, out: &mut List<u8>) {
-    if history.events().len() > u32::MAX as usize {
+    if history.events().len() > u32::MAX as usize || !is_closed(wiring.parts()) {
         return;
     }
     match verdict(alloc, wiring, history) {
@@ -69,6 +69,9 @@ fn give(judge: &mut Judge<'_>, events: &[Event]) -> (u64, Option<u8>) {
 
 /// How many events the judge refuses, the rule of the last, and how many it has then.
 pub fn feed(alloc: Global, wiring: &Wiring, events: &[Event], out: &mut List<u8>) {
+    if !is_closed(wiring.parts()) {
+        return;
+    }
     if let Ok(mut judge) = Judge::new(alloc, wiring) {
         let (refused, last) = give(&mut judge, events);
         put_number(out, refused);
@@ -79,6 +82,9 @@ pub fn feed(alloc: Global, wiring: &Wiring, events: &[Event], out: &mut List<u8>
 
 /// How many events the judge has, and whether they are complete and quiet.
 pub fn judge(alloc: Global, wiring: &Wiring, events: &[Event], out: &mut List<u8>) {
+    if !is_closed(wiring.parts()) {
+        return;
+    }
     if let Ok(mut judge) = Judge::new(alloc, wiring) {
         let _ = give(&mut judge, events);
         put_number(out, u64::from(judge.len()));

@@ -228,6 +228,8 @@ pub fn parts(alloc: Global, sizes: &Sizes) -> Parts {
         arbiters,
         domains: List::new(alloc),
         posters: posters(alloc, sizes),
+        open_posters: List::new(alloc),
+        open_handlers: List::new(alloc),
     }
 }
 

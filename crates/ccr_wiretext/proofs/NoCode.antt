@@ -27,6 +27,8 @@ use Rattle.ccr_wiring.specs.Limits.{policy_is_outside, expr_is_outside, action_i
 use Rattle.ccr_wiring.specs.Versions.{is_long, expr_is_newer, action_is_newer, handler_is_newer, poster_is_newer, has_newer}
 use Rattle.ccr_wiring.specs.Spots.{times, named_ports, has_crowded_port}
 use Rattle.ccr_wiring.specs.Codes.{code_of}
+use Rattle.ccr_wiring.specs.Openness.{is_closed}
+use Rattle.ccr_wiring.proofs.Closed.{none_scripted, none_dangle_open, none_repeat_open, closed_bound}
 use Rattle.ccr_wiring.proofs.Lists.{any_none}
 use Rattle.ccr_text.specs.Words.{is_name_of}
 use Rattle.ccr_text.specs.declared.lines.Line.{Line}
@@ -86,6 +88,7 @@ none_dangles parts fits = rw (
   each_false (ArbiterFit (length parts.queues) (length parts.handlers) (length parts.ports)) (arbiter_is_dangling parts) (arbiter_named_so parts) parts.arbiters fits.arbiters,
   each_false (PosterFit parts.version (length parts.ports) (length parts.causes)) (poster_is_dangling parts) (λ part fit. each_false (PostFit parts.version (length parts.ports) (length parts.causes)) (post_is_dangling parts) (post_named parts) part.posts fit) parts.posters fits.posters,
   each_false (DomainFit parts.arbiters) (domain_is_dangling parts) (λ part fit. each_false (InterleaveFit parts.arbiters) (no_interleave parts) (λ n one. one) part.members fit.0) parts.domains fits.domains,
+  none_dangle_open parts fits.closed,
 ) refl
 
 -- ---- repeats
@@ -102,6 +105,7 @@ none_repeats parts fits = rw (
       (λ branch one. pattern_once (length parts.ports) branch branch.pattern refl one.0.2) part.branches fit.0) parts.arbiters fits.arbiters,
   each_false (PosterFit parts.version (length parts.ports) (length parts.causes)) poster_repeats (λ part fit. each_false (PostFit parts.version (length parts.ports) (length parts.causes)) post_repeats (λ post one. rw one.2 refl) part.posts fit) parts.posters fits.posters,
   fits.combined,
+  none_repeat_open parts fits.closed,
 ) refl
 
 -- ---- limits
@@ -139,6 +143,7 @@ few parts c = rw (within 16 _ c.queues, within 256 _ c.ports, within 64 _ c.sets
 
 none_outside : (parts : Parts) → Counts parts → Fits parts → has_outside parts ≡ false
 none_outside parts c fits = rw (
+  closed_bound parts fits.closed,
   within 10000 parts.budget c.budget,
   few parts c,
   each_false (λ (part : QueuePart). PolicyFit part.policy) queue_is_outside (λ part fit. policy_within part.policy fit) parts.queues fits.queues,
@@ -185,7 +190,7 @@ none_newer parts fits = by (parts.version == 1) refl
         each_false (PosterFit parts.version (length parts.ports) (length parts.causes)) poster_is_newer
         (λ part fit. each_false (PostFit parts.version (length parts.ports) (length parts.causes)) (λ (post : Sent). is_long post.value) (λ post one. in_first parts.version (is_long post.value) e one.3) part.posts fit)
         parts.posters fits.posters in
-        rw (e, handlers, posters) refl
+        rw (e, handlers, posters, fits.closed) refl
 
 -- ---- groups
 
@@ -213,7 +218,8 @@ uncrowded_parts parts spotted spots uncrowded =
 sound_parts : (parts : Parts) (names : Naming) (spotted : List ℕ) → Sound parts names spotted blocks.Outside → code_of parts ≡ None
 unfolding code_of
 sound_parts parts names spotted s =
-    let grouped : has_misgrouped parts ≡ false = each_false (ArbiterFit (length parts.queues) (length parts.handlers) (length parts.ports)) is_misgrouped (arbiter_grouped (length parts.queues) (length parts.handlers) (length parts.ports)) parts.arbiters s.fits.arbiters in
+    let arbiters : list_any is_misgrouped parts.arbiters ≡ false = each_false (ArbiterFit (length parts.queues) (length parts.handlers) (length parts.ports)) is_misgrouped (arbiter_grouped (length parts.queues) (length parts.handlers) (length parts.ports)) parts.arbiters s.fits.arbiters in
+    let grouped : has_misgrouped parts ≡ false = rw (arbiters, none_scripted parts s.fits.closed) refl in
     let apart : has_repeated_name parts ≡ false = s.apart.apart in
     let branched : has_branchless parts ≡ false = each_false (ArbiterFit (length parts.queues) (length parts.handlers) (length parts.ports)) is_branchless (arbiter_branched (length parts.queues) (length parts.handlers) (length parts.ports)) parts.arbiters s.fits.arbiters in
     let formed : has_malformed_name parts ≡ false = each_false (λ name. is_name_of name ≡ true) (λ name. not (is_name_of name)) (λ name e. rw e refl) (declared_names parts) s.apart.formed in
@@ -240,7 +246,7 @@ head_known (first ∷ second ∷ third ∷ words) version e = absurd cc
 nothing_sound : (version : ℕ) → (not (version == 1) && not (version == 2)) ≡ false → SoundDraft (nothing version)
 nothing_sound version known = record {
   counts = record { budget = omega arith; queues = omega arith; ports = omega arith; sets = omega arith; causes = omega arith; handlers = omega arith; arbiters = omega arith; branches = omega arith; posters = omega arith; posts = omega arith; domains = omega arith };
-  fits = record { queues = tt; sets = tt; causes = tt; handlers = tt; arbiters = tt; posters = tt; domains = tt; combined = refl };
+  fits = record { queues = tt; sets = tt; causes = tt; handlers = tt; arbiters = tt; posters = tt; domains = tt; combined = refl; closed = refl };
   version = known;
   known = tt;
   apart = record { apart = refl; formed = tt; fresh = λ name none. refl };
@@ -261,6 +267,21 @@ headed_have_none : (lines : List Line) (parts : Parts) → AreHeadedLines lines 
 headed_have_none [] parts said = absurd said
 headed_have_none (line ∷ lines) parts (clean, inl said) = headed_have_none lines parts said.1
 headed_have_none (line ∷ lines) parts (clean, inr said) = lines_have_none (nothing said.0) lines parts (nothing_sound said.0 (head_known line.words said.0 said.1)) said.2
+
+lines_closed : (draft : Declared) (lines : List Line) (parts : Parts) → SoundDraft draft → AreLines draft lines parts → is_closed parts ≡ true
+lines_closed draft [] parts sound said = ap is_closed said.1 ∙ sound.fits.closed
+lines_closed draft (line ∷ lines) parts sound (clean, inl said) = lines_closed draft lines parts sound said.1
+lines_closed draft (line ∷ lines) parts sound (clean, inr said) =
+    lines_closed said.2 lines parts (line_sound draft.block draft (keyword said.0) said.1 said.2 refl sound said.5) said.6
+
+headed_closed : (lines : List Line) (parts : Parts) → AreHeadedLines lines parts → is_closed parts ≡ true
+headed_closed [] parts said = absurd said
+headed_closed (line ∷ lines) parts (clean, inl said) = headed_closed lines parts said.1
+headed_closed (line ∷ lines) parts (clean, inr said) = lines_closed (nothing said.0) lines parts (nothing_sound said.0 (head_known line.words said.0 said.1)) said.2
+
+-- no poster and no handler of the parts that a text says is open
+pub text_closed : (text : List ℕ) (parts : Parts) → IsText text parts → is_closed parts ≡ true
+text_closed text parts said = headed_closed (lines_of text) parts said
 
 -- the parts that a text says have no code of refusal
 pub text_has_none : (text : List ℕ) (parts : Parts) → IsText text parts → code_of parts ≡ None

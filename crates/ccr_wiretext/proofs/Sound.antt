@@ -1,6 +1,7 @@
 -- What the lines so far declare has no code of refusal, but for a branch that an open block may still get.
 use Rattle.std.proofs.Common.{◌≡◌, ℕ, ◌+◌, ◌<◌, ◌≤◌, true, false, List, [], ◌∷◌, ◌++◌, length, arith, length-append}
 use Rattle.ccr_wiring.specs.declared.parts.Parts.{Parts}
+use Rattle.ccr_wiring.specs.Openness.{is_closed}
 use Rattle.ccr_wiring.specs.declared.parts.SetPart.{SetPart}
 use Rattle.ccr_wiring.specs.declared.parts.CausePart.{CausePart}
 use Rattle.ccr_wiring.specs.declared.parts.QueuePart.{QueuePart}
@@ -82,6 +83,7 @@ pub record Fits (parts : Parts) : Type 0 where
   pub posters : Each (PosterFit parts.version (length parts.ports) (length parts.causes)) parts.posters
   pub domains : Each (DomainFit parts.arbiters) parts.domains
   pub combined : are_apart (members_in_all parts.domains) ≡ true
+  pub closed : is_closed parts ≡ true
 
 pub record Sound (parts : Parts) (names : Naming) (spotted : List ℕ) (block : Block) : Type 0 where
   pub counts : Counts parts
@@ -110,6 +112,7 @@ queue_fits parts part fits fit =
       posters = fits.posters;
       domains = fits.domains;
       combined = fits.combined;
+      closed = fits.closed;
     }
 
 pub port_fits : (parts : Parts) (name : List ℕ) → Fits parts → Fits (record parts { ports = parts.ports ++ name ∷ [] })
@@ -125,6 +128,7 @@ port_fits parts name fits =
       posters = each_more _ _ (poster_more parts.version (length parts.ports) more (length parts.causes) (length parts.causes) grows (omega arith)) parts.posters fits.posters;
       domains = fits.domains;
       combined = fits.combined;
+      closed = fits.closed;
     }
 
 pub set_fits : (parts : Parts) (part : SetPart) → Fits parts → SetFit (length parts.ports) part → Fits (record parts { sets = parts.sets ++ part ∷ [] })
@@ -137,6 +141,7 @@ set_fits parts part fits fit = record {
   posters = fits.posters;
   domains = fits.domains;
   combined = fits.combined;
+  closed = fits.closed;
 }
 
 pub cause_fits : (parts : Parts) (part : CausePart) → Fits parts → part.port < length parts.ports → Fits (record parts { causes = parts.causes ++ part ∷ [] })
@@ -152,6 +157,7 @@ cause_fits parts part fits fit =
       posters = each_more _ _ (poster_more parts.version (length parts.ports) (length parts.ports) (length parts.causes) more (omega arith) grows) parts.posters fits.posters;
       domains = fits.domains;
       combined = fits.combined;
+      closed = fits.closed;
     }
 
 pub handler_fits : (parts : Parts) (part : HandlerPart) → Fits parts → HandlerFit parts.version (length parts.ports) (length parts.causes) part → Fits (record parts { handlers = parts.handlers ++ part ∷ [] })
@@ -166,6 +172,7 @@ handler_fits parts part fits fit =
       posters = fits.posters;
       domains = fits.domains;
       combined = fits.combined;
+      closed = fits.closed;
     }
 
 pub arbiter_fits : (parts : Parts) (part : ArbiterPart) → Fits parts → ArbiterFit (length parts.queues) (length parts.handlers) (length parts.ports) part → Fits (record parts { arbiters = parts.arbiters ++ part ∷ [] })
@@ -178,6 +185,7 @@ arbiter_fits parts part fits fit = record {
   posters = fits.posters;
   domains = each_more (DomainFit parts.arbiters) (DomainFit (parts.arbiters ++ part ∷ [])) (domain_more parts.arbiters part) parts.domains fits.domains;
   combined = fits.combined;
+  closed = fits.closed;
 }
 
 pub poster_fits : (parts : Parts) (part : PosterPart) → Fits parts → PosterFit parts.version (length parts.ports) (length parts.causes) part → Fits (record parts { posters = parts.posters ++ part ∷ [] })
@@ -190,6 +198,7 @@ poster_fits parts part fits fit = record {
   posters = each_push (PosterFit parts.version (length parts.ports) (length parts.causes)) parts.posters part fits.posters fit;
   domains = fits.domains;
   combined = fits.combined;
+  closed = fits.closed;
 }
 
 pub domain_fits : (parts : Parts) (part : DomainPart) → Fits parts → DomainFit parts.arbiters part → are_apart (members_in_all (parts.domains ++ part ∷ [])) ≡ true → Fits (record parts { domains = parts.domains ++ part ∷ [] })
@@ -202,4 +211,5 @@ domain_fits parts part fits fit apart = record {
   posters = fits.posters;
   domains = each_push (DomainFit parts.arbiters) parts.domains part fits.domains fit;
   combined = apart;
+  closed = fits.closed;
 }

@@ -45,7 +45,7 @@ use Rattle.ccr_wiretext.proofs.NamesAdded.{sum_push, known_more, queue_adds, por
 budget_sound : (draft : Declared) (words : Words) (n : ℕ) → Sound draft.parts draft.names draft.spotted blocks.Outside → IsBudget draft words n → Sound (record draft.parts { budget = n }) draft.names draft.spotted blocks.Outside
 budget_sound draft words n s said = let c = s.counts in record {
   counts = record { budget = said.within.below; queues = c.queues; ports = c.ports; sets = c.sets; causes = c.causes; handlers = c.handlers; arbiters = c.arbiters; branches = c.branches; posters = c.posters; posts = c.posts; domains = c.domains };
-  fits = record { queues = s.fits.queues; sets = s.fits.sets; causes = s.fits.causes; handlers = s.fits.handlers; arbiters = s.fits.arbiters; posters = s.fits.posters; domains = s.fits.domains; combined = s.fits.combined };
+  fits = record { queues = s.fits.queues; sets = s.fits.sets; causes = s.fits.causes; handlers = s.fits.handlers; arbiters = s.fits.arbiters; posters = s.fits.posters; domains = s.fits.domains; combined = s.fits.combined; closed = s.fits.closed };
   version = s.version;
   known = known_more draft.parts (record draft.parts { budget = n }) (length draft.parts.handlers) (length draft.parts.handlers) (omega arith) (omega arith) (omega arith) (omega arith) draft.names s.known;
   apart = s.apart;

@@ -36,7 +36,7 @@ pub record Declared : Type 0 where
 -- before the first declaration, by the version
 abbrev pub nothing : ℕ → Declared
 nothing version = record {
-  parts = record { version = version; budget = most_task_posts; queues = []; ports = []; sets = []; causes = []; handlers = []; arbiters = []; domains = []; posters = [] };
+  parts = record { version = version; budget = most_task_posts; queues = []; ports = []; sets = []; causes = []; handlers = []; arbiters = []; domains = []; posters = []; open_posters = []; open_handlers = [] };
   budgeted = false;
   names = [];
   spotted = [];

@@ -80,6 +80,8 @@ impl Draft {
                 arbiters: List::new(alloc),
                 domains: List::new(alloc),
                 posters: List::new(alloc),
+                open_posters: List::new(alloc),
+                open_handlers: List::new(alloc),
             },
             budgeted: false,
             names: Names::new(alloc),

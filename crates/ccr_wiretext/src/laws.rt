@@ -1,11 +1,12 @@
 //! What holds of every text.
 
-ghost use Rattle.std.specs.Prelude.{◌≡◌, ℕ, List, Ok};
+ghost use Rattle.std.specs.Prelude.{◌≡◌, ℕ, true, List, Ok};
 ghost use Rattle.ccr_wiring.specs.declared.parts.Parts.{Parts as Said};
 ghost use Rattle.ccr_wiretext.specs.Lines.{IsText};
 ghost use Rattle.ccr_wiretext.specs.Reading.{reading_text};
 ghost use Rattle.ccr_wiretext.specs.Spelling.{spelling};
 ghost use Rattle.ccr_wiretext.specs.Values.{IsValued};
+ghost use Rattle.ccr_wiring.specs.Openness.{is_closed};
 ghost use Rattle.ccr_wiring.specs.Valid.{IsValid};
 
 use ccr_text::{lines_are_read_again, numbers_are_read_again};
@@ -17,9 +18,9 @@ pub fn reading_is_exact()
     ensures read { (text : List ℕ) (parts : Said) → IsText text parts → reading_text text ≡ Ok parts }
 {}
 
-/// The canonical text of a valid wiring is read as that wiring.
+/// The canonical text of a valid wiring, of which nothing is open, is read as that wiring.
 pub fn what_is_written_is_read()
-    ensures { (parts : Said) → IsValid parts → IsValued parts → reading_text (spelling parts) ≡ Ok parts }
+    ensures { (parts : Said) → IsValid parts → is_closed parts ≡ true → IsValued parts → reading_text (spelling parts) ≡ Ok parts }
 {
     lines_are_read_again();
     numbers_are_read_again();

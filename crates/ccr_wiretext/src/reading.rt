@@ -1,9 +1,10 @@
 //! A text, line by line.
 
-ghost use Rattle.std.specs.Prelude.{◌≡◌, ◌≢◌, ◌≤◌, [], length, None, IfErr, IfNone, IfOk, IfSome};
+ghost use Rattle.std.specs.Prelude.{◌≡◌, true, ◌≢◌, ◌≤◌, [], length, None, IfErr, IfNone, IfOk, IfSome};
 ghost use Rattle.ccr_base.specs.Bounds.{most_wiring_bytes};
 ghost use Rattle.ccr_text.specs.Answers.{Gives, GivesState};
 ghost use Rattle.ccr_text.specs.Fields.{seen};
+ghost use Rattle.ccr_wiring.specs.Openness.{is_closed};
 ghost use Rattle.ccr_wiring.specs.Valid.{IsValid};
 ghost use Rattle.ccr_wiretext.specs.Answers.{IsReading, IsNoText};
 ghost use Rattle.ccr_wiretext.specs.Lines.{IsText};
@@ -186,6 +187,7 @@ fn read_parts(alloc: Global, text: &[u8]) -> Result<Parts, ReadRefused>
     ensures reading { IsReading result (reading_text text.now) }
     ensures grammar { IfOk result (λ parts. IsText text.now parts) }
     ensures valid { IfOk result (λ parts. IsValid parts) }
+    ensures closed { IfOk result (λ parts. is_closed parts ≡ true) }
     ensures refused { IfErr result (λ refused. IsNoText text.now refused) }
 {
     read_text(alloc, text)
@@ -197,6 +199,7 @@ pub fn read_wiring(alloc: Global, text: &[u8]) -> Result<Wiring, ReadRefused>
     requires { length text.now ≤ most_wiring_bytes }
     ensures reading { IsReading result (reading_text text.now) }
     ensures grammar { IfOk result (λ wiring. IsText text.now wiring) }
+    ensures closed { IfOk result (λ wiring. is_closed wiring ≡ true) }
     ensures refused { IfErr result (λ refused. IsNoText text.now refused) }
 {
     let parts = read_parts(alloc, text)?;

@@ -1,6 +1,7 @@
 //! The canonical text, line by line.
 
-ghost use Rattle.std.specs.Prelude.{◌≡◌, ◌++◌, [], ◌∷◌, OnOk, IfOk, map, flat_map};
+ghost use Rattle.std.specs.Prelude.{◌≡◌, ◌++◌, [], ◌∷◌, true, OnOk, IfOk, map, flat_map};
+ghost use Rattle.ccr_wiring.specs.Openness.{is_closed};
 ghost use Rattle.ccr_text.specs.Spelling.{line_text, text_of};
 ghost use Rattle.std.specs.List.{All};
 ghost use Rattle.ccr_wiretext.specs.Reading.{reading_text};
@@ -354,7 +355,7 @@ fn put_parts(alloc: Global, out: &mut Text, parts: &Parts) -> Result<(), OutOfMe
 /// leading zeros, plain port names, and the kinds in one order.
 pub fn write_wiring(alloc: Global, w: &Wiring) -> Result<List<u8>, OutOfMemory>
     ensures spelling { IfOk result (λ text. text ≡ spelling w.now) }
-    ensures read { IfOk result (λ text. reading_text text ≡ Ok w.now) }
+    ensures read { IfOk result (λ text. is_closed w.now ≡ true → reading_text text ≡ Ok w.now) }
 {
     what_is_written_is_read();
     let mut out = Vec::new(alloc);

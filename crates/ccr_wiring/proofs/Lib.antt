@@ -8,3 +8,4 @@ pub mod Noted
 pub mod Untaken
 pub mod DomainsOfOwnKind
 pub mod Soundness
+pub mod Closed

@@ -1,6 +1,7 @@
 -- What a valid wiring promises.
-use Rattle.std.proofs.Common.{◌≡◌, ℕ, ◌+◌, ◌<◌, ◌≤◌, Bool, true, false, cond, List, [], ◌∷◌, length, map, Option, Some, None, refl, ap, sym, ◌∙◌, arith}
-use Rattle.std.specs.Prelude.{◌||◌, ◌==◌, not, nat_lt}
+use Rattle.std.proofs.Common.{◌≡◌, ℕ, ◌+◌, ◌<◌, ◌≤◌, Bool, true, false, cond, zero, suc, List, [], ◌∷◌, length, map, Option, Some, None, refl, ap, sym, subst, ◌∙◌, arith}
+use Rattle.std.specs.Prelude.{◌||◌, ◌&&◌, ◌==◌, not, nat_lt, if◌then◌else◌}
+use Rattle.std.specs.Option.{option_map_or}
 use Rattle.std.specs.List.{list_any, slice_get}
 use Rattle.std.proofs.lemmas.Bool.Decides.{nat_tests}
 use Rattle.std.proofs.lemmas.List.Folds.{list_any-append}
@@ -12,7 +13,8 @@ use Rattle.ccr_base.specs.declared.messages.Sent.{Sent}
 use Rattle.ccr_base.specs.declared.patterns.Pattern.{Pattern}
 use Rattle.ccr_base.specs.declared.patterns.Pattern.TheVariants.{Slots, Gather}
 use Rattle.ccr_base.specs.declared.patterns.Slot.{Slot}
-use Rattle.ccr_base.proofs.Booleans.{not_refuted, or_left}
+use Rattle.ccr_base.proofs.Booleans.{not_refuted, or_left, same_number}
+use Rattle.ccr_base.proofs.Options.{some_is}
 use Rattle.ccr_base.specs.Lists.{are_apart}
 use Rattle.ccr_base.proofs.Lists.{none_narrower, none_at, list_any-map}
 use Rattle.ccr_wiring.specs.declared.parts.ArbiterPart.{ArbiterPart}
@@ -21,14 +23,17 @@ use Rattle.ccr_wiring.specs.declared.parts.CausePart.{CausePart}
 use Rattle.ccr_wiring.specs.declared.parts.DomainPart.{DomainPart}
 use Rattle.ccr_wiring.specs.declared.parts.HandlerPart.{HandlerPart}
 use Rattle.ccr_wiring.specs.declared.parts.Kind.{Kind}
+use Rattle.ccr_wiring.specs.declared.parts.OpenPart.{OpenPart}
 use Rattle.ccr_wiring.specs.declared.parts.Parts.{Parts}
+use Rattle.ccr_wiring.specs.declared.parts.PosterPart.{PosterPart}
 use Rattle.ccr_wiring.specs.Wirings.{Placement, placement, placements, placements_of, placements_from, in_domain, actions_of, exception_port, awaited, site_port}
-use Rattle.ccr_wiring.specs.Groups.{may_have, has_strange_group}
-use Rattle.ccr_wiring.specs.References.{is_beyond, has_beyond, no_port, no_cause, action_is_dangling, slots_are_dangling, pattern_is_dangling, branch_is_dangling, post_is_dangling, handler_is_dangling, cause_is_dangling, poster_is_dangling, has_dangling, has_dangling_set, has_dangling_cause, has_dangling_handler, has_dangling_arbiter, has_dangling_poster, has_dangling_domain}
-use Rattle.ccr_wiring.specs.Repeats.{slot_ports, names_ports_once, branch_repeats, post_repeats, poster_repeats, has_repeating_set, has_repeating_arbiter, has_repeating_poster, has_repeating_domain}
+use Rattle.ccr_wiring.specs.Groups.{may_have, has_strange_group, is_misgrouped, has_script, is_no_await, acts, poster_is_scripted, handler_is_scripted, has_scripted}
+use Rattle.ccr_wiring.specs.Openness.{open_ports_in, open_poster, open_handler, is_closed}
+use Rattle.ccr_wiring.specs.References.{is_beyond, has_beyond, no_port, no_cause, action_is_dangling, slots_are_dangling, pattern_is_dangling, branch_is_dangling, post_is_dangling, handler_is_dangling, cause_is_dangling, poster_is_dangling, has_dangling, has_dangling_set, has_dangling_cause, has_dangling_handler, has_dangling_arbiter, has_dangling_poster, has_dangling_domain, open_is_dangling, has_dangling_open}
+use Rattle.ccr_wiring.specs.Repeats.{slot_ports, names_ports_once, branch_repeats, post_repeats, poster_repeats, has_repeating_set, has_repeating_arbiter, has_repeating_poster, has_repeating_domain, has_repeating_open}
 use Rattle.ccr_wiring.specs.Limits.{is_outside, slot_is_outside, pattern_is_outside, branch_is_outside, has_branches_above, has_posts_above, has_outside}
 use Rattle.ccr_wiring.specs.Spots.{pattern_ports, times, named_ports, has_crowded}
-use Rattle.ccr_wiring.specs.Valid.{IsValid, IsSound, IsSmall, IsSlotFilled, IsPatternFilled, IsActionNamed, IsPostNamed}
+use Rattle.ccr_wiring.specs.Valid.{IsValid, IsSound, IsSmall, IsSlotFilled, IsPatternFilled, IsActionNamed, IsPostNamed, IsOpenPoster, IsOpenHandler}
 use Rattle.ccr_wiring.proofs.Lists.{neither}
 use Rattle.ccr_wiring.proofs.SpotsAreListed.{length-placements}
 use Rattle.ccr_wiring.proofs.DomainsOfOwnKind.{kept_domain}
@@ -63,6 +68,7 @@ record Named (parts : Parts) : Type 0 where
   arbiters : has_dangling_arbiter parts ≡ false
   posters : has_dangling_poster parts ≡ false
   domains : has_dangling_domain parts ≡ false
+  opened : has_dangling_open parts ≡ false
 
 named : (parts : Parts) → has_dangling parts ≡ false → Named parts
 named parts none =
@@ -71,11 +77,13 @@ named parts none =
     let c = has_dangling_handler parts in
     let d = has_dangling_arbiter parts in
     let e = has_dangling_poster parts in
-    let five = neither (a || b || c || d || e) (has_dangling_domain parts) none in
+    let f = has_dangling_domain parts in
+    let six = neither (a || b || c || d || e || f) (has_dangling_open parts) none in
+    let five = neither (a || b || c || d || e) f six.0 in
     let four = neither (a || b || c || d) e five.0 in
     let three = neither (a || b || c) d four.0 in
     let two = neither (a || b) c three.0 in
-    record { causes = (neither a b two.0).1; handlers = two.1; arbiters = three.1; posters = four.1; domains = five.1 }
+    record { causes = (neither a b two.0).1; handlers = two.1; arbiters = three.1; posters = four.1; domains = five.1; opened = six.1 }
 
 record BranchNamed (parts : Parts) (branch : BranchPart) : Type 0 where
   queue : branch.queue < length parts.queues
@@ -205,6 +213,11 @@ not_crowded ports none port = by_test (nat_lt 16 (times port ports)) refl
     by_test false few = at_most 16 (times port ports) few
     by_test true often = let zero' = few_times port ports ports none often in omega arith
 
+-- the budget's bound, where nothing is open
+closed_budget : {over : Bool} (closed : Bool) → closed ≡ true → (closed && over) ≡ false → over ≡ false
+closed_budget true shut bound = bound
+closed_budget false shut bound = absurd cc
+
 small : (parts : Parts) → has_outside parts ≡ false → IsSmall parts
 small parts none =
     let inside = within parts none in
@@ -227,7 +240,7 @@ small parts none =
     let branches = few_branches parts none in
     let count = length-placements parts in
     record {
-      budget = at_most 10000 parts.budget inside.budget;
+      budget = λ shut. at_most 10000 parts.budget (closed_budget (is_closed parts) shut inside.budget);
       queues = at_most 16 (length parts.queues) one.0;
       ports = at_most 256 (length parts.ports) one.1;
       sets = at_most 64 (length parts.sets) two.1;
@@ -239,20 +252,77 @@ small parts none =
       posts = at_most 10000 _ eight.1;
     }
 
+-- an open part of this number stands in the list
+record Opened (parts : Parts) (count number : ℕ) (held : List ℕ) (scripted : OpenPart → Bool) : Type 0 where
+  named : number < count
+  ports : (index port : ℕ) → slice_get held index ≡ Some port → port < length parts.ports
+  part : OpenPart
+  numbered : part.part ≡ number
+  silent : scripted part ≡ false
+
+opened : (parts : Parts) (count number : ℕ) (ports : List ℕ) (scripted : OpenPart → Bool) (listed : List OpenPart) → list_any (open_is_dangling parts count) listed ≡ false → list_any scripted listed ≡ false → open_ports_in listed number ≡ Some ports → Opened parts count number ports scripted
+opened parts count number ports scripted [] named silent at = absurd cc
+opened parts count number ports scripted (part ∷ listed) named silent at =
+    let here = neither (open_is_dangling parts count part) (list_any (open_is_dangling parts count) listed) named in
+    let shut = neither (scripted part) (list_any scripted listed) silent in
+    by (part.part == number) refl here.0 shut.0 (λ later. opened parts count number ports scripted listed here.1 shut.1 later)
+  where
+    by : (t : Bool) → (part.part == number) ≡ t → open_is_dangling parts count part ≡ false → scripted part ≡ false → (open_ports_in listed number ≡ Some ports → Opened parts count number ports scripted) → Opened parts count number ports scripted
+    by true is here shut others =
+        let same : part.part ≡ number = same_number part.part number is in
+        let both = neither (is_beyond count part.part) (has_beyond (length parts.ports) part.ports) here in
+        let first : Some part.ports ≡ Some ports = ap (λ t. if t then Some part.ports else open_ports_in listed number) (sym is) ∙ at in
+        let ports_so : part.ports ≡ ports = some_is first in
+        record {
+          named = subst (λ n. n < count) same (below count part.part both.0);
+          ports = subst (λ ps. (index port : ℕ) → slice_get ps index ≡ Some port → port < length parts.ports) ports_so (λ index port there. below (length parts.ports) port (none_at (is_beyond (length parts.ports)) part.ports index port both.1 there));
+          part = part;
+          numbered = same;
+          silent = shut;
+        }
+    by false is here shut others = others (ap (λ t. if t then Some part.ports else open_ports_in listed number) (sym is) ∙ at)
+
+open_poster_named : (parts : Parts) (poster : ℕ) (ports : List ℕ) → list_any (open_is_dangling parts (length parts.posters)) parts.open_posters ≡ false → list_any (poster_is_scripted parts) parts.open_posters ≡ false → open_poster parts poster ≡ Some ports → IsOpenPoster parts poster ports
+open_poster_named parts poster ports named silent at =
+    let found = opened parts (length parts.posters) poster ports (poster_is_scripted parts) parts.open_posters named silent at in
+    let still : option_map_or has_script (slice_get parts.posters poster) false ≡ false = subst (λ n. option_map_or has_script (slice_get parts.posters n) false ≡ false) found.numbered found.silent in
+    record { named = found.named; ports = found.ports; silent = λ part there. no_posts part (ap (λ o. option_map_or has_script o false) (sym there) ∙ still) }
+  where
+    no_posts : (part : PosterPart) → has_script part ≡ false → part.posts ≡ []
+    no_posts part none = by part.posts none
+      where
+        by : (posts : List Sent) → not (length posts == 0) ≡ false → posts ≡ []
+        by [] none = refl
+        by (post ∷ posts) none = let same : length (post ∷ posts) ≡ 0 = same_number (length (post ∷ posts)) 0 (not_refuted (length (post ∷ posts) == 0) none) in absurd (omega (arith, same))
+
+open_handler_named : (parts : Parts) (handler : ℕ) (ports : List ℕ) → list_any (open_is_dangling parts (length parts.handlers)) parts.open_handlers ≡ false → list_any (handler_is_scripted parts) parts.open_handlers ≡ false → open_handler parts handler ≡ Some ports → IsOpenHandler parts handler ports
+open_handler_named parts handler ports named silent at =
+    let found = opened parts (length parts.handlers) handler ports (handler_is_scripted parts) parts.open_handlers named silent at in
+    let still : option_map_or acts (slice_get parts.handlers handler) false ≡ false = subst (λ n. option_map_or acts (slice_get parts.handlers n) false ≡ false) found.numbered found.silent in
+    record { named = found.named; ports = found.ports; silent = awaits (slice_get parts.handlers handler) refl still }
+  where
+    awaits : (o : Option HandlerPart) → slice_get parts.handlers handler ≡ o → option_map_or acts o false ≡ false → list_any is_no_await (actions_of parts handler) ≡ false
+    awaits None there still = rw there refl
+    awaits (Some part) there still = rw there still
+
 -- a valid wiring is sound
 pub sound : (parts : Parts) → IsValid parts → IsSound parts
 sound parts valid =
     let none = no_codes parts valid in
     let numbers = named parts none.references in
     let inside = within parts none.limits in
-    let all = neither (has_repeating_set parts || has_repeating_arbiter parts || has_repeating_poster parts) (has_repeating_domain parts) none.repeats in
+    let shut = neither (has_repeating_set parts || has_repeating_arbiter parts || has_repeating_poster parts || has_repeating_domain parts) (has_repeating_open parts) none.repeats in
+    let all = neither (has_repeating_set parts || has_repeating_arbiter parts || has_repeating_poster parts) (has_repeating_domain parts) shut.0 in
+    let grouped = neither (list_any is_misgrouped parts.arbiters) (has_scripted parts) none.groups in
+    let silent = neither (list_any (poster_is_scripted parts) parts.open_posters) (list_any (handler_is_scripted parts) parts.open_handlers) grouped.1 in
+    let there = neither (list_any (open_is_dangling parts (length parts.posters)) parts.open_posters) (list_any (open_is_dangling parts (length parts.handlers)) parts.open_handlers) numbers.opened in
     let twice = neither (has_repeating_set parts || has_repeating_arbiter parts) (has_repeating_poster parts) all.0 in
     let branches = placement_none (λ kind branch. branch_is_dangling parts branch) parts numbers.arbiters in
     record {
       apart = λ branch s at. not_refuted (names_ports_once s.branch.pattern) (placement_none (λ kind branch. branch_repeats branch) parts (neither (has_repeating_set parts) (has_repeating_arbiter parts) twice.0).1 branch s at);
       queues = λ branch s at. (branch_named parts s.branch (branches branch s at)).queue;
       handlers = λ branch s at. (branch_named parts s.branch (branches branch s at)).handler;
-      groups = λ branch s at. not_refuted (may_have s.kind s.branch.group) (placement_none (λ kind branch. not (may_have kind branch.group)) parts (none_narrower has_strange_group _ parts.arbiters (λ x is. or_left (has_strange_group x) _ is) none.groups) branch s at);
+      groups = λ branch s at. not_refuted (may_have s.kind s.branch.group) (placement_none (λ kind branch. not (may_have kind branch.group)) parts (none_narrower has_strange_group _ parts.arbiters (λ x is. or_left (has_strange_group x) _ is) grouped.0) branch s at);
       pattern_ports = λ branch s index port at there. pattern_port parts s.branch.pattern index port (branch_named parts s.branch (branches branch s at)).pattern there;
       patterns = λ branch s at. pattern_filled s.branch.pattern (placement_none (λ kind branch. branch_is_outside branch) parts inside.arbiters branch s at);
       actions = λ handler index action at. actions_named parts handler index action (slice_get parts.handlers handler) refl numbers.handlers at;
@@ -263,4 +333,6 @@ sound parts valid =
       few_spots = not_crowded (named_ports parts) none.spots;
       small = small parts none.limits;
       domains = λ branch s at. kept_domain parts branch s numbers.domains at;
+      open_posters = λ poster ports at. open_poster_named parts poster ports there.0 silent.0 at;
+      open_handlers = λ handler ports at. open_handler_named parts handler ports there.1 silent.1 at;
     }

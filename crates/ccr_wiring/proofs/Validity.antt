@@ -11,12 +11,12 @@ use Rattle.ccr_wiring.specs.declared.parts.ArbiterPart.{ArbiterPart}
 use Rattle.ccr_wiring.specs.declared.parts.HandlerPart.{HandlerPart}
 use Rattle.ccr_wiring.specs.declared.parts.Parts.{Parts}
 use Rattle.ccr_wiring.specs.Wirings.{actions_of, policy_of}
-use Rattle.ccr_wiring.specs.Limits.{has_outside, has_too_many, has_outside_queue, has_outside_set, has_outside_handler, has_outside_arbiter, has_outside_domain, handler_is_outside, action_is_outside, has_branches_above, has_posts_above, policy_is_outside, queue_is_outside}
+use Rattle.ccr_wiring.specs.Limits.{has_outside, has_outside_budget, has_too_many, has_outside_queue, has_outside_set, has_outside_handler, has_outside_arbiter, has_outside_domain, handler_is_outside, action_is_outside, has_branches_above, has_posts_above, policy_is_outside, queue_is_outside}
 use Rattle.ccr_wiring.specs.Spots.{all_branches, has_crowded_port}
-use Rattle.ccr_wiring.specs.Groups.{has_misgrouped, has_branchless}
+use Rattle.ccr_wiring.specs.Groups.{is_misgrouped, has_scripted, has_misgrouped, has_branchless}
 use Rattle.ccr_wiring.specs.Names.{has_repeated_name, has_malformed_name}
-use Rattle.ccr_wiring.specs.References.{has_dangling}
-use Rattle.ccr_wiring.specs.Repeats.{has_repeat}
+use Rattle.ccr_wiring.specs.References.{has_dangling_set, has_dangling_cause, has_dangling_handler, has_dangling_arbiter, has_dangling_poster, has_dangling_domain, has_dangling_open, has_dangling}
+use Rattle.ccr_wiring.specs.Repeats.{has_repeating_set, has_repeating_arbiter, has_repeating_poster, has_repeating_domain, has_repeating_open, has_repeat}
 use Rattle.ccr_wiring.specs.Versions.{has_strange_version, has_newer}
 use Rattle.ccr_wiring.specs.Codes.{code_of}
 use Rattle.ccr_wiring.proofs.Lists.{neither}
@@ -25,7 +25,7 @@ use Rattle.ccr_wiring.specs.declared.parts.QueuePart.{QueuePart}
 use Rattle.ccr_wiring.specs.Valid.{IsValid}
 
 pub record Within (parts : Parts) : Type 0 where
-  pub budget : nat_lt 10000 parts.budget ≡ false
+  pub budget : has_outside_budget parts ≡ false
   pub many : has_too_many parts ≡ false
   pub queues : has_outside_queue parts ≡ false
   pub sets : has_outside_set parts ≡ false
@@ -36,7 +36,7 @@ pub record Within (parts : Parts) : Type 0 where
 -- each of the limits is kept
 pub within : (parts : Parts) → has_outside parts ≡ false → Within parts
 within parts none =
-    let a = nat_lt 10000 parts.budget in
+    let a = has_outside_budget parts in
     let b = has_too_many parts in
     let c = has_outside_queue parts in
     let d = has_outside_set parts in
@@ -127,3 +127,19 @@ policy_inside w valid q = of_option (slice_get w.queues q) refl
     of_option : (o : Option QueuePart) → slice_get w.queues q ≡ o → policy_is_outside (option_map_or (λ (part : QueuePart). part.policy) o Unbounded) ≡ false
     of_option None at = refl
     of_option (Some part) at = none_at queue_is_outside w.queues q part (within w (no_codes w valid).limits).queues at
+
+-- no arbiter is misgrouped
+pub none_misgrouped : (parts : Parts) → NoCodes parts → list_any is_misgrouped parts.arbiters ≡ false
+none_misgrouped parts none = (neither (list_any is_misgrouped parts.arbiters) (has_scripted parts) none.groups).0
+
+-- each member of a domain is an Interleave's number
+pub none_dangle : (parts : Parts) → NoCodes parts → has_dangling_domain parts ≡ false
+none_dangle parts none =
+    let five : Bool = has_dangling_set parts || has_dangling_cause parts || has_dangling_handler parts || has_dangling_arbiter parts || has_dangling_poster parts in
+    (neither five (has_dangling_domain parts) (neither (five || has_dangling_domain parts) (has_dangling_open parts) none.references).0).1
+
+-- and none stands twice
+pub none_stand_twice : (parts : Parts) → NoCodes parts → has_repeating_domain parts ≡ false
+none_stand_twice parts none =
+    let three : Bool = has_repeating_set parts || has_repeating_arbiter parts || has_repeating_poster parts in
+    (neither three (has_repeating_domain parts) (neither (three || has_repeating_domain parts) (has_repeating_open parts) none.repeats).0).1

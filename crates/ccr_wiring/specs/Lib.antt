@@ -1,4 +1,5 @@
 pub mod Domains
+pub mod Openness
 pub mod Wirings
 pub mod Groups
 pub mod Names

@@ -1,5 +1,5 @@
 -- The limits of a wiring.
-use Rattle.std.specs.Prelude.{ℕ, Bool, false, not, ◌==◌, ◌||◌, nat_lt, List, map, length, sum}
+use Rattle.std.specs.Prelude.{ℕ, Bool, false, not, ◌==◌, ◌&&◌, ◌||◌, nat_lt, List, map, length, sum}
 use Rattle.std.specs.List.{list_any}
 use Rattle.ccr_base.specs.Bounds.{last_index, most_actions, most_arbiters, most_arg, most_branches, most_causes, most_count, most_domains, most_handlers, most_members, most_policy, most_ports, most_posters, most_queues, most_script_posts, most_set_ports, most_sets, most_slots, most_task_posts}
 use Rattle.ccr_base.specs.declared.handlers.Action.{Action}
@@ -19,6 +19,7 @@ use Rattle.ccr_wiring.specs.declared.parts.QueuePart.{QueuePart}
 use Rattle.ccr_wiring.specs.declared.parts.SetPart.{SetPart}
 use Rattle.ccr_wiring.specs.declared.parts.DomainPart.{DomainPart}
 use Rattle.ccr_wiring.specs.declared.parts.Parts.{Parts}
+use Rattle.ccr_wiring.specs.Openness.{is_closed}
 
 -- whether a number lies outside its limits
 abbrev pub is_outside : ℕ → ℕ → ℕ → Bool
@@ -123,8 +124,12 @@ domain_is_outside domain = is_outside 2 most_members (length domain.members)
 abbrev pub has_outside_domain : Parts → Bool
 has_outside_domain parts = nat_lt most_domains (length parts.domains) || list_any domain_is_outside parts.domains
 
+-- where nothing is open, tasks make at most 10,000 posts
+abbrev pub has_outside_budget : Parts → Bool
+has_outside_budget parts = is_closed parts && nat_lt most_task_posts parts.budget
+
 -- a number is outside its limits, or there is more of something than its limit
 abbrev pub has_outside : Parts → Bool
 has_outside parts =
-    nat_lt most_task_posts parts.budget || has_too_many parts
+    has_outside_budget parts || has_too_many parts
     || has_outside_queue parts || has_outside_set parts || has_outside_handler parts || has_outside_arbiter parts || has_outside_domain parts

@@ -12,6 +12,7 @@ use Rattle.ccr_wiring.specs.declared.parts.ArbiterPart.{ArbiterPart}
 use Rattle.ccr_wiring.specs.declared.parts.BranchPart.{BranchPart}
 use Rattle.ccr_wiring.specs.declared.parts.CausePart.{CausePart}
 use Rattle.ccr_wiring.specs.declared.parts.HandlerPart.{HandlerPart}
+use Rattle.ccr_wiring.specs.declared.parts.OpenPart.{OpenPart}
 use Rattle.ccr_wiring.specs.declared.parts.PosterPart.{PosterPart}
 use Rattle.ccr_wiring.specs.declared.parts.SetPart.{SetPart}
 use Rattle.ccr_wiring.specs.declared.parts.DomainPart.{DomainPart}
@@ -111,6 +112,14 @@ domain_is_dangling parts domain = list_any (no_interleave parts) domain.members
 abbrev pub has_dangling_domain : Parts → Bool
 has_dangling_domain parts = list_any (domain_is_dangling parts) parts.domains
 
--- a port, queue, handler, cause or Interleave is named that the parts don't have
+-- the open part's number names none of so many, or one of its ports isn't there
+abbrev pub open_is_dangling : Parts → ℕ → OpenPart → Bool
+open_is_dangling parts count part = is_beyond count part.part || has_beyond (length parts.ports) part.ports
+
+-- some open part is dangling
+abbrev pub has_dangling_open : Parts → Bool
+has_dangling_open parts = list_any (open_is_dangling parts (length parts.posters)) parts.open_posters || list_any (open_is_dangling parts (length parts.handlers)) parts.open_handlers
+
+-- a port, queue, poster, handler, cause or Interleave is named that the parts don't have
 abbrev pub has_dangling : Parts → Bool
-has_dangling parts = has_dangling_set parts || has_dangling_cause parts || has_dangling_handler parts || has_dangling_arbiter parts || has_dangling_poster parts || has_dangling_domain parts
+has_dangling parts = has_dangling_set parts || has_dangling_cause parts || has_dangling_handler parts || has_dangling_arbiter parts || has_dangling_poster parts || has_dangling_domain parts || has_dangling_open parts

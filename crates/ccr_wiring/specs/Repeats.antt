@@ -1,4 +1,4 @@
--- A port twice in one pattern or set, a cause twice in one post, an Interleave twice in the domains.
+-- A port twice in one pattern, set or open part, a cause twice in one post, an Interleave twice in the domains, a part twice among the open ones.
 use Rattle.std.specs.Prelude.{ℕ, Bool, not, ◌==◌, ◌||◌, List, map, flat_map}
 use Rattle.std.specs.List.{list_any}
 use Rattle.ccr_base.specs.declared.messages.Sent.{Sent}
@@ -8,6 +8,7 @@ use Rattle.ccr_base.specs.declared.patterns.Slot.{Slot}
 use Rattle.ccr_base.specs.Lists.{are_apart}
 use Rattle.ccr_wiring.specs.declared.parts.ArbiterPart.{ArbiterPart}
 use Rattle.ccr_wiring.specs.declared.parts.BranchPart.{BranchPart}
+use Rattle.ccr_wiring.specs.declared.parts.OpenPart.{OpenPart}
 use Rattle.ccr_wiring.specs.declared.parts.PosterPart.{PosterPart}
 use Rattle.ccr_wiring.specs.declared.parts.SetPart.{SetPart}
 use Rattle.ccr_wiring.specs.declared.parts.DomainPart.{DomainPart}
@@ -66,6 +67,22 @@ members_in_all domains = flat_map (λ (domain : DomainPart). domain.members) dom
 abbrev pub has_repeating_domain : Parts → Bool
 has_repeating_domain parts = not (are_apart (members_in_all parts.domains))
 
--- a port stands twice in one pattern or set, a cause twice in one post, or an Interleave twice in the domains
+-- the numbers of open parts
+abbrev pub open_numbers : List OpenPart → List ℕ
+open_numbers parts = map (λ (part : OpenPart). part.part) parts
+
+-- a port stands twice in the open part
+abbrev pub open_repeats : OpenPart → Bool
+open_repeats part = not (are_apart part.ports)
+
+-- a part stands twice in the list, or a port twice in a part
+abbrev pub open_parts_repeat : List OpenPart → Bool
+open_parts_repeat parts = not (are_apart (open_numbers parts)) || list_any open_repeats parts
+
+-- some open part stands twice, or has a port twice
+abbrev pub has_repeating_open : Parts → Bool
+has_repeating_open parts = open_parts_repeat parts.open_posters || open_parts_repeat parts.open_handlers
+
+-- a port stands twice in one pattern, set or open part, a cause twice in one post, an Interleave twice in the domains, or a part twice among the open ones
 abbrev pub has_repeat : Parts → Bool
-has_repeat parts = has_repeating_set parts || has_repeating_arbiter parts || has_repeating_poster parts || has_repeating_domain parts
+has_repeat parts = has_repeating_set parts || has_repeating_arbiter parts || has_repeating_poster parts || has_repeating_domain parts || has_repeating_open parts

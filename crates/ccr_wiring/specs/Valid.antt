@@ -1,6 +1,6 @@
 -- Valid wirings, and what they promise.
-use Rattle.std.specs.Prelude.{◌≡◌, ◌<◌, ◌≤◌, ℕ, true, length, Some, None, IsSomeAnd}
-use Rattle.std.specs.List.{slice_get}
+use Rattle.std.specs.Prelude.{◌≡◌, ◌<◌, ◌≤◌, ℕ, true, false, List, [], length, Some, None, IsSomeAnd}
+use Rattle.std.specs.List.{list_any, slice_get}
 use Rattle.ccr_base.specs.Bounds.{most_actions, most_arbiters, most_branches, most_causes, most_count, most_handlers, most_ports, most_posters, most_queues, most_script_posts, most_sets, most_slots, most_spots, most_task_posts}
 use Rattle.ccr_base.specs.declared.handlers.Action.{Action}
 use Rattle.ccr_base.specs.declared.handlers.Action.TheVariants.{Post, Fail, Add, Remove, Await}
@@ -14,7 +14,8 @@ use Rattle.ccr_wiring.specs.declared.parts.PosterPart.{PosterPart}
 use Rattle.ccr_wiring.specs.declared.parts.ArbiterPart.{ArbiterPart}
 use Rattle.ccr_wiring.specs.Wirings.{Placement, placement, placements, actions_of, exception_port, site_port}
 use Rattle.ccr_wiring.specs.Codes.{code_of}
-use Rattle.ccr_wiring.specs.Groups.{may_have}
+use Rattle.ccr_wiring.specs.Groups.{may_have, is_no_await}
+use Rattle.ccr_wiring.specs.Openness.{open_poster, open_handler, is_closed}
 use Rattle.ccr_wiring.specs.Limits.{posts_in_all}
 use Rattle.ccr_wiring.specs.Spots.{pattern_ports, times, named_ports}
 pub use Rattle.ccr_wiring.specs.Repeats.{slot_ports, names_ports_once}
@@ -98,9 +99,29 @@ HasFewSpots wiring = (port : ℕ) → times port (named_ports wiring) ≤ most_s
 abbrev pub HasDomains : Parts → Type 0
 HasDomains wiring = (branch : ℕ) (s : Placement) → placement wiring branch ≡ Some s → IsSomeAnd (slice_get wiring.arbiters s.domain) (λ (arbiter : ArbiterPart). arbiter.kind ≡ s.kind)
 
+-- an open poster is one of the wiring's and has no script, and its ports are the wiring's
+pub record IsOpenPoster (wiring : Parts) (poster : ℕ) (listed : List ℕ) : Type 0 where
+  pub named : poster < length wiring.posters
+  pub ports : (index port : ℕ) → slice_get listed index ≡ Some port → port < length wiring.ports
+  pub silent : (part : PosterPart) → slice_get wiring.posters poster ≡ Some part → part.posts ≡ []
+
+-- each open poster
+abbrev pub HasOpenPosters : Parts → Type 0
+HasOpenPosters wiring = (poster : ℕ) (ports : List ℕ) → open_poster wiring poster ≡ Some ports → IsOpenPoster wiring poster ports
+
+-- an open handler is one of the wiring's and has awaits alone, and its ports are the wiring's
+pub record IsOpenHandler (wiring : Parts) (handler : ℕ) (listed : List ℕ) : Type 0 where
+  pub named : handler < length wiring.handlers
+  pub ports : (index port : ℕ) → slice_get listed index ≡ Some port → port < length wiring.ports
+  pub silent : list_any is_no_await (actions_of wiring handler) ≡ false
+
+-- each open handler
+abbrev pub HasOpenHandlers : Parts → Type 0
+HasOpenHandlers wiring = (handler : ℕ) (ports : List ℕ) → open_handler wiring handler ≡ Some ports → IsOpenHandler wiring handler ports
+
 -- how many of each kind there are at most
 pub record IsSmall (wiring : Parts) : Type 0 where
-  pub budget : wiring.budget ≤ most_task_posts
+  pub budget : is_closed wiring ≡ true → wiring.budget ≤ most_task_posts
   pub queues : length wiring.queues ≤ most_queues
   pub ports : length wiring.ports ≤ most_ports
   pub sets : length wiring.sets ≤ most_sets
@@ -127,3 +148,5 @@ pub record IsSound (wiring : Parts) : Type 0 where
   pub few_spots : HasFewSpots wiring
   pub small : IsSmall wiring
   pub domains : HasDomains wiring
+  pub open_posters : HasOpenPosters wiring
+  pub open_handlers : HasOpenHandlers wiring

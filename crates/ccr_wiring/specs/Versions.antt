@@ -1,4 +1,4 @@
--- What a wiring of version 1 hasn't: values of several numbers, and parts of values.
+-- What a wiring of version 1 hasn't: values of several numbers, parts of values, and open posters and handlers.
 use Rattle.std.specs.Prelude.{ℕ, Bool, true, false, not, ◌==◌, ◌||◌, ◌&&◌, nat_lt, List, length}
 use Rattle.std.specs.List.{list_any}
 use Rattle.ccr_base.specs.declared.handlers.Action.{Action}
@@ -9,6 +9,7 @@ use Rattle.ccr_base.specs.declared.messages.Sent.{Sent}
 use Rattle.ccr_wiring.specs.declared.parts.Parts.{Parts}
 use Rattle.ccr_wiring.specs.declared.parts.HandlerPart.{HandlerPart}
 use Rattle.ccr_wiring.specs.declared.parts.PosterPart.{PosterPart}
+use Rattle.ccr_wiring.specs.Openness.{is_closed}
 
 -- the version is neither 1 nor 2
 abbrev pub has_strange_version : Parts → Bool
@@ -40,8 +41,8 @@ poster_is_newer poster = list_any (λ (post : Sent). is_long post.value) poster.
 
 -- something stands in the parts that only version 2 has
 abbrev pub is_newer : Parts → Bool
-is_newer parts = list_any handler_is_newer parts.handlers || list_any poster_is_newer parts.posters
+is_newer parts = list_any handler_is_newer parts.handlers || list_any poster_is_newer parts.posters || not (is_closed parts)
 
--- in version 1 each value is one number, and no part of a value stands
+-- in version 1 each value is one number, no part of a value stands, and nothing is open
 abbrev pub has_newer : Parts → Bool
 has_newer parts = (parts.version == 1) && is_newer parts

@@ -7,6 +7,7 @@ mod groups;
 mod laws;
 mod limits;
 mod names;
+mod openness;
 mod part_names;
 mod parts;
 mod placements;
@@ -21,7 +22,7 @@ mod unfit;
 mod versions;
 mod wiring;
 
-pub use laws::valid_wirings_are_sound;
+pub use laws::{old_wirings_are_closed, valid_wirings_are_sound};
 pub use limits::{
     MAX_ACTIONS, MAX_ACTOR, MAX_ARBITERS, MAX_ARG, MAX_BRANCHES, MAX_BUDGET, MAX_CAUSES, MAX_COUNT,
     MAX_DOMAINS, MAX_HANDLERS, MAX_INDEX, MAX_MEMBERS, MAX_POLICY, MAX_PORTS, MAX_POSTERS,
@@ -29,7 +30,7 @@ pub use limits::{
 };
 pub use part_names::{arbiter_name, cause_name, handler_name, port_name, queue_name};
 pub use parts::{
-    ArbiterPart, BranchPart, CausePart, DomainPart, HandlerPart, Kind, Parts, PosterPart,
+    ArbiterPart, BranchPart, CausePart, DomainPart, HandlerPart, Kind, OpenPart, Parts, PosterPart,
     QueuePart, SetPart,
 };
 pub use placements::PlacementOf;
@@ -40,4 +41,5 @@ pub use spot_names::{branch_names, name_at};
 pub use spot_words::{put_spot_word, spot_text};
 pub use spots::{add_branch_ports, branch_of, segment_of};
 pub use unfit::Unfit;
+pub use versions::is_closed;
 pub use wiring::Wiring;

@@ -2,8 +2,9 @@
 
 ghost use Rattle.std.specs.Prelude.{◌≡◌};
 ghost use Rattle.std.specs.List.{list_any};
-ghost use Rattle.ccr_wiring.specs.Limits.{policy_is_outside, expr_is_outside, action_is_outside, slot_is_outside, slots_are_outside, pattern_is_outside, handler_is_outside, branch_is_outside, arbiter_is_outside, queue_is_outside, set_is_outside, has_branches_above, has_posts_above, has_too_many, has_outside_queue, has_outside_set, has_outside_handler, has_outside_arbiter, domain_is_outside, has_outside_domain, has_outside};
+ghost use Rattle.ccr_wiring.specs.Limits.{policy_is_outside, expr_is_outside, action_is_outside, slot_is_outside, slots_are_outside, pattern_is_outside, handler_is_outside, branch_is_outside, arbiter_is_outside, queue_is_outside, set_is_outside, has_branches_above, has_posts_above, has_too_many, has_outside_queue, has_outside_set, has_outside_handler, has_outside_arbiter, domain_is_outside, has_outside_domain, has_outside_budget, has_outside};
 
+use crate::versions::is_closed;
 use crate::{
     ArbiterPart, BranchPart, DomainPart, HandlerPart, Parts, PosterPart, QueuePart, SetPart,
 };
@@ -247,10 +248,16 @@ fn has_outside_domain(parts: &Parts) -> bool
     domains.len() > MAX_DOMAINS || has_domain_outside(domains)
 }
 
+fn has_outside_budget(parts: &Parts) -> bool
+    ensures { result ≡ has_outside_budget parts.now }
+{
+    is_closed(parts) && parts.budget > MAX_BUDGET
+}
+
 pub(crate) fn has_outside(parts: &Parts) -> bool
     ensures { result ≡ has_outside parts.now }
 {
-    parts.budget > MAX_BUDGET
+    has_outside_budget(parts)
         || has_too_many(parts)
         || has_outside_queue(parts)
         || has_outside_set(parts)

@@ -68,6 +68,13 @@ pub struct PosterPart {
     pub posts: List<ScriptPost>,
 }
 
+/// A poster or a handler that somebody outside plays, by its number, and the ports to which it may post.
+#[derive(Drop)]
+pub struct OpenPart {
+    pub part: u32,
+    pub ports: List<PortNo>,
+}
+
 /// Everything that a wiring text says.
 #[derive(Drop)]
 pub struct Parts {
@@ -82,4 +89,8 @@ pub struct Parts {
     pub arbiters: List<ArbiterPart>,
     pub domains: List<DomainPart>,
     pub posters: List<PosterPart>,
+    /// The posters whose posts come from outside; none in a wiring that `ccr` reads.
+    pub open_posters: List<OpenPart>,
+    /// The handlers whose tasks are played outside; none in a wiring that `ccr` reads.
+    pub open_handlers: List<OpenPart>,
 }

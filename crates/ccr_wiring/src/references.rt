@@ -1,12 +1,14 @@
 //! Numbers that name nothing.
 
 ghost use Rattle.std.specs.Prelude.{◌≡◌};
-ghost use Rattle.ccr_wiring.specs.References.{is_beyond, has_beyond, no_port, no_cause, action_is_dangling, pattern_is_dangling, slots_are_dangling, branch_is_dangling, post_is_dangling, set_is_dangling, cause_is_dangling, handler_is_dangling, arbiter_is_dangling, poster_is_dangling, has_dangling, has_dangling_set, has_dangling_cause, has_dangling_handler, has_dangling_arbiter, has_dangling_poster, no_interleave, domain_is_dangling, has_dangling_domain};
+ghost use Rattle.std.specs.List.{list_any};
+ghost use Rattle.ccr_wiring.specs.References.{is_beyond, has_beyond, no_port, no_cause, action_is_dangling, pattern_is_dangling, slots_are_dangling, branch_is_dangling, post_is_dangling, set_is_dangling, cause_is_dangling, handler_is_dangling, arbiter_is_dangling, poster_is_dangling, has_dangling, has_dangling_set, has_dangling_cause, has_dangling_handler, has_dangling_arbiter, has_dangling_poster, no_interleave, domain_is_dangling, has_dangling_domain, open_is_dangling, has_dangling_open};
 ghost use Rattle.ccr_wiring.specs.Groups.{is_interleave};
 
 use crate::script_posts::ScriptPost;
 use crate::{
-    ArbiterPart, BranchPart, CausePart, DomainPart, HandlerPart, Kind, Parts, PosterPart, SetPart,
+    ArbiterPart, BranchPart, CausePart, DomainPart, HandlerPart, Kind, OpenPart, Parts, PosterPart,
+    SetPart,
 };
 use ccr_base::{Action, ArbiterNo, Pattern, Slot};
 
@@ -200,6 +202,29 @@ fn has_dangling_domain(parts: &Parts) -> bool
         .any(|domain| domain_is_dangling(parts, domain))
 }
 
+fn open_is_dangling(parts: &Parts, count: usize, part: &OpenPart) -> bool
+    ensures { result ≡ open_is_dangling parts.now count part.now }
+{
+    is_beyond(count, part.part) || has_beyond(parts.ports.as_slice().len(), part.ports.as_slice())
+}
+
+fn has_dangling_among(parts: &Parts, count: usize, listed: &[OpenPart]) -> bool
+    ensures { result ≡ list_any (open_is_dangling parts.now count) listed.now }
+{
+    listed
+        .iter()
+        .any(|part| open_is_dangling(parts, count, part))
+}
+
+fn has_dangling_open(parts: &Parts) -> bool
+    ensures { result ≡ has_dangling_open parts.now }
+{
+    let posters = parts.posters.as_slice().len();
+    let handlers = parts.handlers.as_slice().len();
+    has_dangling_among(parts, posters, parts.open_posters.as_slice())
+        || has_dangling_among(parts, handlers, parts.open_handlers.as_slice())
+}
+
 pub(crate) fn has_dangling(parts: &Parts) -> bool
     ensures { result ≡ has_dangling parts.now }
 {
@@ -209,4 +234,5 @@ pub(crate) fn has_dangling(parts: &Parts) -> bool
         || has_dangling_arbiter(parts)
         || has_dangling_poster(parts)
         || has_dangling_domain(parts)
+        || has_dangling_open(parts)
 }

@@ -1,11 +1,13 @@
-//! Ports that stand twice in a pattern or a set, causes that stand twice in a post, Interleaves that stand twice in the domains.
+//! Ports that stand twice in a pattern, a set or an open part, causes that stand twice in a post, Interleaves that stand twice in the domains,
+//! parts that stand twice among the open ones.
 
 ghost use Rattle.std.specs.Prelude.{◌≡◌, ◌++◌, IfOk, OnOk};
+ghost use Rattle.std.specs.List.{list_any};
 ghost use Rattle.ccr_base.specs.Lists.{has_number, are_apart};
-ghost use Rattle.ccr_wiring.specs.Repeats.{are_slots_apart, slot_ports, names_ports_once, branch_repeats, arbiter_repeats, set_repeats, post_repeats, poster_repeats, has_repeating_set, has_repeating_arbiter, has_repeating_poster, members_in_all, has_repeating_domain, has_repeat};
+ghost use Rattle.ccr_wiring.specs.Repeats.{are_slots_apart, slot_ports, names_ports_once, branch_repeats, arbiter_repeats, set_repeats, post_repeats, poster_repeats, has_repeating_set, has_repeating_arbiter, has_repeating_poster, members_in_all, has_repeating_domain, open_numbers, open_repeats, open_parts_repeat, has_repeating_open, has_repeat};
 
 use crate::script_posts::ScriptPost;
-use crate::{ArbiterPart, BranchPart, DomainPart, Parts, PosterPart, SetPart};
+use crate::{ArbiterPart, BranchPart, DomainPart, OpenPart, Parts, PosterPart, SetPart};
 use ccr_base::{ArbiterNo, OutOfMemory, Pattern, PortNo, Slot, has_number};
 use std::alloc::Global;
 
@@ -141,6 +143,53 @@ fn has_repeating_domain(alloc: Global, parts: &Parts) -> Result<bool, OutOfMemor
     Ok(!are_apart(&members))
 }
 
+fn has_open(listed: &[OpenPart], number: u32) -> bool
+    ensures { result ≡ has_number (open_numbers listed.now) number }
+{
+    for part in listed {
+        if part.part == number {
+            return true;
+        }
+    }
+    false
+}
+
+fn are_open_apart(listed: &[OpenPart]) -> bool
+    ensures { result ≡ are_apart (open_numbers listed.now) }
+{
+    for (index, part) in listed.iter().enumerate() {
+        if has_open(&listed[index + 1..], part.part) {
+            return false;
+        }
+    }
+    true
+}
+
+fn open_repeats(part: &OpenPart) -> bool
+    ensures { result ≡ open_repeats part.now }
+{
+    !are_apart(part.ports.as_slice())
+}
+
+fn has_port_repeated(listed: &[OpenPart]) -> bool
+    ensures { result ≡ list_any open_repeats listed.now }
+{
+    listed.iter().any(|part| open_repeats(part))
+}
+
+fn open_parts_repeat(listed: &[OpenPart]) -> bool
+    ensures { result ≡ open_parts_repeat listed.now }
+{
+    !are_open_apart(listed) || has_port_repeated(listed)
+}
+
+fn has_repeating_open(parts: &Parts) -> bool
+    ensures { result ≡ has_repeating_open parts.now }
+{
+    open_parts_repeat(parts.open_posters.as_slice())
+        || open_parts_repeat(parts.open_handlers.as_slice())
+}
+
 pub(crate) fn has_repeat(alloc: Global, parts: &Parts) -> Result<bool, OutOfMemory>
     ensures { IfOk result (λ repeats. repeats ≡ has_repeat parts.now) }
 {
@@ -148,6 +197,7 @@ pub(crate) fn has_repeat(alloc: Global, parts: &Parts) -> Result<bool, OutOfMemo
         has_repeating_set(parts)
             || has_repeating_arbiter(parts)
             || has_repeating_poster(parts)
-            || has_repeating_domain(alloc, parts)?,
+            || has_repeating_domain(alloc, parts)?
+            || has_repeating_open(parts),
     )
 }

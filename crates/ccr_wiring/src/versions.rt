@@ -1,7 +1,8 @@
-//! What a wiring of version 1 hasn't: values of several numbers, and parts of values.
+//! What a wiring of version 1 hasn't: values of several numbers, parts of values, and open posters and handlers.
 
 ghost use Rattle.std.specs.Prelude.{◌≡◌};
 ghost use Rattle.std.specs.List.{list_any};
+ghost use Rattle.ccr_wiring.specs.Openness.{is_closed};
 ghost use Rattle.ccr_wiring.specs.Versions.{has_strange_version, is_long, expr_is_newer, action_is_newer, handler_is_newer, poster_is_newer, is_newer, has_newer};
 
 use crate::{HandlerPart, Parts, PosterPart};
@@ -64,10 +65,19 @@ fn has_newer_poster(posters: &[PosterPart]) -> bool
     posters.iter().any(|poster| poster_is_newer(poster))
 }
 
+/// Whether no poster and no handler is open.
+pub fn is_closed(parts: &Parts) -> bool
+    ensures { result ≡ is_closed parts.now }
+{
+    parts.open_posters.as_slice().is_empty() && parts.open_handlers.as_slice().is_empty()
+}
+
 fn is_newer(parts: &Parts) -> bool
     ensures { result ≡ is_newer parts.now }
 {
-    has_newer_handler(parts.handlers.as_slice()) || has_newer_poster(parts.posters.as_slice())
+    has_newer_handler(parts.handlers.as_slice())
+        || has_newer_poster(parts.posters.as_slice())
+        || !is_closed(parts)
 }
 
 pub(crate) fn has_newer(parts: &Parts) -> bool

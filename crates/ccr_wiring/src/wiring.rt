@@ -4,6 +4,7 @@ ghost use Rattle.std.specs.Prelude.{◌≡◌, ◌<◌, [], OnOk, IfOk, IfErr, l
 ghost use Rattle.std.specs.Option.{option_map, option_map_or};
 ghost use Rattle.ccr_wiring.specs.Actors.{is_behind_posters};
 ghost use Rattle.ccr_wiring.specs.Answers.{IsCause};
+ghost use Rattle.ccr_wiring.specs.Openness.{open_poster, open_handler};
 ghost use Rattle.ccr_wiring.specs.Placements.{placement_seen};
 ghost use Rattle.ccr_wiring.specs.Wirings.{actions_at, actions_of, is_interleave_number, kind_of, placement, policy_of, site_port, spots as spots_of};
 ghost use Rattle.ccr_wiring.specs.Takers.{branches_of, spots_at};
@@ -12,6 +13,7 @@ ghost use Rattle.ccr_wiring.specs.Domains.{domain_of};
 
 use crate::codes::code_of;
 use crate::domains::domain_of;
+use crate::openness::open_ports_in;
 use crate::placements::{Position, all_positions, placement_of};
 use crate::references::no_interleave;
 use crate::spots::{actions_of, all_spots};
@@ -169,6 +171,20 @@ impl Wiring {
             .as_slice()
             .get(placement.branch.handler as usize)?;
         Some(&part.handler)
+    }
+
+    /// The ports to which somebody outside may post under the poster's name; none where it posts its script.
+    pub fn open_poster(&self, poster: ActorNo) -> Option<&[PortNo]>
+        ensures { option_map (λ ports. ports.now) result ≡ open_poster self.now poster }
+    {
+        open_ports_in(self.parts().open_posters.as_slice(), poster)
+    }
+
+    /// The ports to which a task of the handler may post from outside; none where it plays its actions.
+    pub fn open_handler(&self, handler: HandlerNo) -> Option<&[PortNo]>
+        ensures { option_map (λ ports. ports.now) result ≡ open_handler self.now handler }
+    {
+        open_ports_in(self.parts().open_handlers.as_slice(), handler)
     }
 
     /// The port that is awaited at this site of the branch.

@@ -43,6 +43,7 @@ use Rattle.ccr_claim.specs.Plans.{in_pattern, resumes}
 use Rattle.ccr_claim.specs.Attempts.{at_place, Phase, booking, claiming, had_in, attempt_ask}
 use Rattle.ccr_actor.specs.Plans.{plan_of, pattern_at}
 use Rattle.ccr_wiring.specs.Groups.{is_interleave}
+use Rattle.ccr_wiring.specs.Openness.{is_closed}
 use Rattle.ccr_actor.specs.Actors.{State, Turn, settle, admit, drive, go_on, stop, Work, lines, round, taking, playing, posting, shedding, resting, turn, ask_in, spots_left, name_at, work_ask, play_ask, end_ask, next}
 use Rattle.ccr_runs.specs.declared.entries.Entry.{Entry}
 use Rattle.ccr_runs.specs.Places.{note_of, note_at_arbiter, note_by_kind, port_after}
@@ -95,7 +96,7 @@ admit_met w i (Some part) earlier is = by part.kind is
     by kinds.Choice now = absurd (cc)
     by kinds.Interleave now = refl
 
-module _ (w : Parts) (valid : IsValid w) (n : ℕ) (lacks : Lacks) (es : List Entry) (ready : Ready w n lacks es) (a : ℕ) where
+module _ (w : Parts) (valid : IsValid w) (closed : is_closed w ≡ true) (n : ℕ) (lacks : Lacks) (es : List Entry) (ready : Ready w n lacks es) (a : ℕ) where
   abbrev st : State
   st = state_of w lacks es a
 
@@ -227,9 +228,9 @@ module _ (w : Parts) (valid : IsValid w) (n : ℕ) (lacks : Lacks) (es : List En
       few : length (port_at es p).items + 1 < 2 ^ 32
       few =
           let items = ready.items p in
-          let bound = posts_bounded w (visible es) ready.holds.legal in
+          let bound = posts_bounded w closed (visible es) ready.holds.legal in
           let scripts = all.small.posts in
-          let budget = all.small.budget in
+          let budget = all.small.budget closed in
           let drawn = ready.holds.meter.drawn_so in
           let low = ready.holds.meter.low in
           omega (arith, items, bound, scripts, budget, drawn, low)
@@ -328,5 +329,5 @@ module _ (w : Parts) (valid : IsValid w) (n : ℕ) (lacks : Lacks) (es : List En
       by go_on turns now = work_met x st.work refl (ready.holds.actors a).work now
       by stop turns now = absurd (cc)
 
-pub asks_met : (w : Parts) (workers : ℕ) (lacks : Lacks) (es : List Entry) (a : ℕ) (x : Asked) → IsValid w → workers ≤ 16 → IsRunAfter w workers lacks [] es → a < length w.posters + workers → next w a (lacks a) (replies_of w es a) ≡ Some x → is_some (note_of w x.place (notes_at es x.place) x.ask) ≡ true
-asks_met w workers lacks es a x valid few steps low asks = turn_met w valid (length w.posters + workers) lacks es (ready w workers (plain_facts w valid) (sound w valid).domains (let posters = (sound w valid).small.posters in omega (arith, posters, few)) lacks es steps) a x asks
+pub asks_met : (w : Parts) (workers : ℕ) (lacks : Lacks) (es : List Entry) (a : ℕ) (x : Asked) → IsValid w → is_closed w ≡ true → workers ≤ 16 → IsRunAfter w workers lacks [] es → a < length w.posters + workers → next w a (lacks a) (replies_of w es a) ≡ Some x → is_some (note_of w x.place (notes_at es x.place) x.ask) ≡ true
+asks_met w workers lacks es a x valid closed few steps low asks = turn_met w valid closed (length w.posters + workers) lacks es (ready w workers (plain_facts w valid) (sound w valid).domains (let posters = (sound w valid).small.posters in omega (arith, posters, few)) lacks es steps) a x asks

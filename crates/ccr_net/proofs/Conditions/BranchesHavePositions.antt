@@ -17,7 +17,7 @@ use Rattle.ccr_wiring.specs.Valid.{IsValid}
 use Rattle.ccr_wiring.specs.Wirings.{Placement, placement, placements_from, in_domain, branches_before}
 use Rattle.ccr_wiring.proofs.Positions.{placement-domain}
 use Rattle.ccr_wiring.proofs.DomainsOfOwnKind.{member_fails, ArbiterOf, placement_of_arbiter}
-use Rattle.ccr_wiring.proofs.Validity.{no_codes}
+use Rattle.ccr_wiring.proofs.Validity.{no_codes, none_dangle}
 use Rattle.ccr_base.proofs.Booleans.{neither, no_both}
 use Rattle.ccr_base.proofs.Options.{some_is}
 use Rattle.ccr_base.specs.Lists.{has_number}
@@ -46,7 +46,7 @@ pub branch_position : (w : Parts) → IsValid w → (b : ℕ) (s : Placement) (p
 branch_position w valid b s part sits at kind_so outside = of_placement (slice_get (placements_from 0 w.arbiters) b) refl (placement-domain w b ∙ sits)
   where
     dangling : has_dangling_domain w ≡ false
-    dangling = (neither (has_dangling_set w || has_dangling_cause w || has_dangling_handler w || has_dangling_arbiter w || has_dangling_poster w) (has_dangling_domain w) (no_codes w valid).references).1
+    dangling = none_dangle w (no_codes w valid)
 
     of_placement : (o : Option Placement) → slice_get (placements_from 0 w.arbiters) b ≡ o → option_map (in_domain w.domains) o ≡ Some s → arbiters.has_spot (arbiter_after (first_branch w s.domain) part []) (Branch b) ≡ true
     of_placement None here is = absurd (cc)

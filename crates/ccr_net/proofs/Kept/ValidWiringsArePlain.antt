@@ -27,7 +27,7 @@ use Rattle.ccr_wiring.specs.Wirings.{Placement, placement, placements, placement
 use Rattle.ccr_wiring.proofs.Lists.{neither}
 use Rattle.ccr_wiring.proofs.Positions.{placement-here, placement-later, placement-domain}
 use Rattle.ccr_wiring.proofs.Soundness.{sound}
-use Rattle.ccr_wiring.proofs.Validity.{no_codes}
+use Rattle.ccr_wiring.proofs.Validity.{no_codes, none_misgrouped}
 use Rattle.ccr_model.specs.Tasks.{is_interleave}
 use Rattle.ccr_base.proofs.Booleans.{both}
 use Rattle.ccr_base.proofs.Options.{drop-next, some_is}
@@ -59,7 +59,7 @@ first_placement n (suc i) (a ∷ arbiters) part one at is =
 -- a receive has one branch
 pub one_branch : (w : Parts) → IsValid w → (i : ℕ) (part : ArbiterPart) → slice_get w.arbiters i ≡ Some part → part.kind ≡ kinds.Receive → (one : BranchPart) × (part.branches ≡ one ∷ [])
 one_branch w valid i part at kind =
-    let well : is_misgrouped part ≡ false = none_at is_misgrouped w.arbiters i part (no_codes w valid).groups at in
+    let well : is_misgrouped part ≡ false = none_at is_misgrouped w.arbiters i part (none_misgrouped w (no_codes w valid)) at in
     let named : is_receive part.kind && not (is_one_named part.name part.branches) ≡ false = (neither (has_strange_group part) _ well).1 in
     of_list part.branches refl (is_true (is_one_named part.name part.branches) (rw kind at named))
   where

@@ -1,7 +1,7 @@
 -- Along a legal history each message names a port and causes of the wiring, and so does each play; no cause stands twice.
-use Rattle.std.proofs.Common.{inl, inr, ◌≡◌, ◌<◌, ℕ, zero, suc, Bool, true, false, not, List, [], ◌∷◌, length, flat_map, Option, Some, None, refl, sym, subst}
-use Rattle.std.specs.Prelude.{◌==◌, All, if◌then◌else◌, nat_lt, option_map, option_to_list, slice_get}
-use Rattle.std.specs.List.{list_all}
+use Rattle.std.proofs.Common.{◌⊎◌, inl, inr, ◌&&◌, ◌||◌, ◌≡◌, ◌<◌, ℕ, zero, suc, Bool, true, false, not, List, [], ◌∷◌, length, flat_map, Option, Some, None, refl, sym, subst}
+use Rattle.std.specs.Prelude.{◌==◌, All, option_and_then, if◌then◌else◌, nat_lt, option_map, option_to_list, slice_get}
+use Rattle.std.specs.List.{list_all, list_any}
 use Rattle.std.specs.Option.{option_map_or}
 use Rattle.std.proofs.lemmas.Bool.{lt-ltb, ltb-true}
 use Rattle.std.proofs.lemmas.List.Elements.{All-cons, All-nil}
@@ -9,6 +9,7 @@ use Rattle.ccr_base.specs.declared.handlers.Action.{Action}
 use Rattle.ccr_base.specs.declared.handlers.Action.TheVariants as actions
 use Rattle.ccr_base.specs.declared.messages.Msg.{Msg}
 use Rattle.ccr_base.specs.declared.messages.Sent.{Sent}
+use Rattle.ccr_base.specs.declared.names.MsgId.{MsgId}
 use Rattle.ccr_base.specs.declared.names.MsgId.TheVariants as names
 use Rattle.ccr_base.specs.declared.names.Spot.{Spot}
 use Rattle.ccr_base.specs.declared.names.Spot.TheVariants.{Site}
@@ -26,12 +27,18 @@ use Rattle.ccr_model.specs.Firings.{spot_of}
 use Rattle.ccr_model.specs.Legal.{IsLegal}
 use Rattle.ccr_model.specs.Posts.{posts}
 use Rattle.ccr_model.specs.Sites.{resumed}
-use Rattle.ccr_model.specs.TaskData.{Load, load_after, load_at, load_of, messages_of, no_load, no_play, play_at, play_of, with_messages}
+use Rattle.ccr_model.specs.TaskData.{Load, load_after, load_at, load_of, messages_of, no_load, no_play, placement_of, play_at, play_of, with_messages}
 use Rattle.ccr_model.proofs.Members.{Among, Among-kept, index_of, all_from, all_pass, spread_some}
-use Rattle.ccr_base.specs.Lists.{are_apart}
+use Rattle.ccr_base.specs.Lists.{are_apart, has_number}
+use Rattle.ccr_base.specs.Names.{same_lists}
+use Rattle.ccr_base.proofs.Booleans.{both, same_number}
+use Rattle.ccr_base.proofs.Options.{some_of, some_then}
+use Rattle.ccr_base.proofs.SameNames.{same_numbers-is}
+use Rattle.ccr_wiring.specs.Openness.{open_handler}
+use Rattle.ccr_model.specs.Rules.{is_value, is_exception}
 use Rattle.ccr_base.proofs.Apart.{apart_kept}
 use Rattle.ccr_model.proofs.PostNames.{IsPost}
-use Rattle.ccr_model.proofs.PostedMessages.{each_posted, post_allowed}
+use Rattle.ccr_model.proofs.PostedMessages.{IsOutside, each_posted, either_of, post_either}
 use Rattle.ccr_model.proofs.TakenWerePosted.{took_among}
 use Rattle.ccr_claim.specs.Wired.{AreCausesOf}
 use Rattle.ccr_claim.proofs.CausesStandOnce.{with_apart, with_all, union_apart, union_all}
@@ -170,5 +177,52 @@ module _ (w : Parts) (all : IsSound w) where
       let named = all.scripts poster index part sent is line in
       record { port = named.port; causes = record { below = λ c there. (let at = index_of sent.causes c there in named.causes at.0 c at.1); apart = named.apart } }
 
+  -- what somebody outside posts
+  abbrev IsFinePost : Msg → Type 0
+  IsFinePost m = (m.port < length w.ports) × AreFine (length w.causes) m.causes
+
+  named_port : (listed : List ℕ) (port : ℕ) → ((index p : ℕ) → slice_get listed index ≡ Some p → p < length w.ports) → has_number listed port ≡ true → port < length w.ports
+  named_port [] port there is = absurd (cc)
+  named_port (x ∷ listed) port there is = by (x == port) refl is (named_port listed port (λ index p at. there (suc index) p at))
+    where
+      by : (b : Bool) → (x == port) ≡ b → (b || has_number listed port) ≡ true → (has_number listed port ≡ true → port < length w.ports) → port < length w.ports
+      by true same is rest = subst (λ p. p < length w.ports) (same_number x port same) (there 0 x refl)
+      by false same is rest = rest is
+
+  told_port : (m : Msg) (causes : List ℕ) → list_any (λ cause. option_map_or (λ port. port == m.port) (exception_port w cause) false) causes ≡ true → m.port < length w.ports
+  told_port m [] is = absurd (cc)
+  told_port m (c ∷ causes) is = by (option_map_or (λ port. port == m.port) (exception_port w c) false) refl is (told_port m causes)
+    where
+      by : (b : Bool) → option_map_or (λ port. port == m.port) (exception_port w c) false ≡ b → (b || list_any (λ cause. option_map_or (λ port. port == m.port) (exception_port w cause) false) causes) ≡ true → (list_any (λ cause. option_map_or (λ port. port == m.port) (exception_port w cause) false) causes ≡ true → m.port < length w.ports) → m.port < length w.ports
+      by true here is rest =
+          let found = some_of (λ port. port == m.port) (exception_port w c) here in
+          subst (λ p. p < length w.ports) (same_number found.0 m.port found.2) (all.exception_ports c found.0 found.1)
+      by false here is rest = rest is
+
+  same_causes : (m : Msg) (causes : List ℕ) → same_lists (λ c d. c == d) m.causes causes ≡ true → AreFine (length w.causes) causes → AreFine (length w.causes) m.causes
+  same_causes m causes is fine = subst (AreFine (length w.causes)) (sym (same_numbers-is m.causes causes is)) fine
+
+  outside_fine : (h : List Event) → ArePosted h → (m : Msg) (name : MsgId) → IsOutside w h m name → IsFinePost m
+  outside_fine h known m (names.Script a k) found =
+      let its = all.open_posters a found.0 found.1 in
+      let parts = both (has_number found.0 m.port && is_value m.value && list_all (λ cause. nat_lt cause (length w.causes)) m.causes) (are_apart m.causes) found.2 in
+      let more = both (has_number found.0 m.port && is_value m.value) (list_all (λ cause. nat_lt cause (length w.causes)) m.causes) parts.0 in (
+        named_port found.0 m.port its.ports (both (has_number found.0 m.port) (is_value m.value) more.0).0,
+        record { below = all_below (length w.causes) m.causes more.1; apart = parts.1 },
+      )
+  outside_fine h known m (names.Task t k) found =
+      let opened = some_then (λ (s : Placement). open_handler w s.branch.handler) (placement_of w h t) found.0 found.1 in
+      let its = all.open_handlers opened.0.branch.handler found.0 opened.2 in
+      let load = load_of-fine h known t in
+      by (either_of (has_number found.0 m.port && same_lists (λ c d. c == d) m.causes (load_of w h t).causes) (is_exception w (load_of w h t).causes m) (both (is_value m.value) _ found.2).1) its.ports load
+    where
+      by : ((has_number found.0 m.port && same_lists (λ c d. c == d) m.causes (load_of w h t).causes) ≡ true) ⊎ (is_exception w (load_of w h t).causes m ≡ true) → ((index p : ℕ) → slice_get found.0 index ≡ Some p → p < length w.ports) → AreFine (length w.causes) (load_of w h t).causes → IsFinePost m
+      by (inl own) ports load = let parts = both (has_number found.0 m.port) (same_lists (λ c d. c == d) m.causes (load_of w h t).causes) own in (named_port found.0 m.port ports parts.0, same_causes m (load_of w h t).causes parts.1 load)
+      by (inr told) ports load = let parts = both (same_lists (λ c d. c == d) m.causes []) _ told in (told_port m (load_of w h t).causes parts.1, same_causes m [] parts.0 (none_fine (length w.causes)))
+
   pub posted_fine : (h : List Event) → IsLegal w h → ArePosted h
-  posted_fine h legal = each_posted w (λ (m : Msg). (m.port < length w.ports) × AreFine (length w.causes) m.causes) (λ g m lawful known allowed. (let it = post_allowed w g m IsSentFine script_fine (λ t. (play_of-fine g known t).posts) m.id allowed in sent_as m it.0 it.1 it.2)) h legal
+  posted_fine h legal = each_posted w IsFinePost (λ g m lawful known allowed. of_either g known m (post_either w g m IsSentFine script_fine (λ t. (play_of-fine g known t).posts) m.id allowed)) h legal
+    where
+      of_either : (g : List Event) → ArePosted g → (m : Msg) → ((sent : Sent) × IsPost m sent × IsSentFine sent) ⊎ IsOutside w g m m.id → IsFinePost m
+      of_either g known m (inl it) = sent_as m it.0 it.1 it.2
+      of_either g known m (inr outside) = outside_fine g known m m.id outside

@@ -18,7 +18,7 @@ use Rattle.ccr_wiring.specs.Wirings.{Placement, branch_of, in_domain, placement,
 use Rattle.ccr_wiring.proofs.Lists.{neither}
 use Rattle.ccr_wiring.proofs.DomainsOfOwnKind.{least-low}
 use Rattle.ccr_wiring.proofs.Positions.{placement-domain}
-use Rattle.ccr_wiring.proofs.Validity.{no_codes}
+use Rattle.ccr_wiring.proofs.Validity.{no_codes, none_stand_twice}
 use Rattle.ccr_base.proofs.Apart.{apart-split}
 use Rattle.ccr_model.specs.declared.history.Event.{Event}
 use Rattle.ccr_model.specs.declared.history.Event.TheVariants as events
@@ -130,7 +130,7 @@ domain_own w valid i is = of_placement (slice_get (placements_from 0 w.arbiters)
     of_not false e = absurd (cc)
 
     apart : are_apart (members_in_all w.domains) ≡ true
-    apart = of_not (are_apart (members_in_all w.domains)) (neither _ (has_repeating_domain w) (no_codes w valid).repeats).1
+    apart = of_not (are_apart (members_in_all w.domains)) (none_stand_twice w (no_codes w valid))
 
     of_placement : (o : Option Placement) → option_map (in_domain w.domains) o ≡ Some is.1 → (domain_of w.domains i == i) ≡ true
     of_placement None at = absurd (cc)

@@ -9,6 +9,7 @@ use Rattle.ccr_base.specs.declared.tasks.How.TheVariants as hows
 use Rattle.ccr_base.specs.Selection.{holds}
 use Rattle.ccr_wiring.specs.declared.parts.Parts.{Parts}
 use Rattle.ccr_wiring.specs.Limits.{posts_in_all}
+use Rattle.ccr_wiring.specs.Openness.{is_closed}
 use Rattle.ccr_model.specs.declared.history.Event.{Event}
 use Rattle.ccr_model.specs.Legal.{IsLegal}
 use Rattle.ccr_model.specs.Posts.{posts, posts_of_tasks}
@@ -25,9 +26,9 @@ use Rattle.ccr_runs.specs.EntryRuns.{port_at, same_place}
 use Rattle.ccr_runs.specs.Visible.{visible, event_of, shown}
 use Rattle.ccr_net.proofs.Parts.OneMoreEntry.{port_at-push, visible-push}
 
--- a legal history's posts
-pub posts_bounded : (w : Parts) (h : List Event) → IsLegal w h → length (posts h) ≤ posts_of_tasks h + posts_in_all w.posters
-posts_bounded w h legal = let known = ArePosted-legal w h legal in omega (arith, known.lines, both_kinds (posts h))
+-- a legal history's posts, in a closed wiring
+pub posts_bounded : (w : Parts) → is_closed w ≡ true → (h : List Event) → IsLegal w h → length (posts h) ≤ posts_of_tasks h + posts_in_all w.posters
+posts_bounded w closed h legal = let known = ArePosted-legal w closed h legal in omega (arith, known.lines, both_kinds (posts h))
 
 -- ---- what a port keeps
 

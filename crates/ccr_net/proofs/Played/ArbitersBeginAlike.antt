@@ -21,7 +21,7 @@ use Rattle.ccr_wiring.specs.References.{domain_is_dangling, has_dangling_domain,
 use Rattle.ccr_wiring.specs.Valid.{IsValid}
 use Rattle.ccr_wiring.specs.Wirings.{Placement, actions_of, awaited, in_domain, placement, placements, placements_from, sites_from, spots_from, kind_of, branches_before}
 use Rattle.ccr_wiring.proofs.Lists.{neither}
-use Rattle.ccr_wiring.proofs.Validity.{no_codes}
+use Rattle.ccr_wiring.proofs.Validity.{no_codes, none_dangle, none_misgrouped}
 use Rattle.ccr_base.proofs.Booleans.{eq-self, same_number}
 use Rattle.ccr_base.specs.Lists.{has_number}
 use Rattle.ccr_base.proofs.Lists.{none_at}
@@ -138,7 +138,7 @@ module _ (ds : List DomainPart) (i : ℕ) where
 module _ (w : Parts) (valid : IsValid w) (i : ℕ) (part : ArbiterPart) (at : slice_get w.arbiters i ≡ Some part) (outside : is_interleave part.kind ≡ false) where
   plain_members : members w i ≡ numbered (first_branch w i) part.branches
   plain_members =
-      let none : list_any (domain_is_dangling w) w.domains ≡ false = (neither _ (has_dangling_domain w) (no_codes w valid).references).1 in
+      let none : list_any (domain_is_dangling w) w.domains ≡ false = none_dangle w (no_codes w valid) in
       let plain : no_interleave w i ≡ true = ap (λ o. option_map_or (λ (a : ArbiterPart). not (is_interleave a.kind)) o true) at ∙ ap not outside in
       members_walk w i
       ∙ its_members w.domains i (domain_test w w.domains i none plain) 0 0 i w.arbiters part at (let e : 0 + i ≡ i = omega arith in e)
@@ -150,7 +150,7 @@ module _ (w : Parts) (valid : IsValid w) (i : ℕ) (part : ArbiterPart) (at : sl
     where
       no_named : (kind : Kind) → part.kind ≡ kind → part.branches ≡ [] → is_interleave kind ≡ false → ⊥
       no_named kinds.Receive kind none free =
-          let well : is_misgrouped part ≡ false = none_at is_misgrouped w.arbiters i part (no_codes w valid).groups at in
+          let well : is_misgrouped part ≡ false = none_at is_misgrouped w.arbiters i part (none_misgrouped w (no_codes w valid)) at in
           let named : is_receive part.kind && not (is_one_named part.name part.branches) ≡ false = (neither (has_strange_group part) _ well).1 in
           let out : true ≡ false = rw (kind, none) at named in
           absurd (cc)

@@ -9,6 +9,7 @@ use Rattle.ccr_wiring.specs.declared.parts.ArbiterPart.{ArbiterPart}
 use Rattle.ccr_wiring.specs.declared.parts.Parts.{Parts}
 use Rattle.ccr_wiring.specs.Groups.{is_interleave}
 use Rattle.ccr_wiring.specs.Valid.{IsValid}
+use Rattle.ccr_wiring.specs.Openness.{is_closed}
 use Rattle.ccr_claim.specs.declared.asks.Ask.{Ask}
 use Rattle.ccr_claim.specs.Attempts.{at_place}
 use Rattle.ccr_runs.specs.declared.entries.Entry.{Entry}
@@ -62,9 +63,9 @@ module _ (w : Parts) (workers : ℕ) (lacks : Lacks) (valid : IsValid w) (few : 
       by (places.Queue q) at = run_answers w workers lacks es e valid few run step (ap (keeps_tasks w) at)
       by places.Meter at = subst (λ x. AnswersAs w es x e) (sym (asked_at places.Meter at)) (meter_answers w es e ask (given_at places.Meter at))
 
-pub step_facts : (w : Parts) (workers : ℕ) (lacks : Lacks) → IsValid w → workers ≤ 16 → StepFacts w workers lacks
-step_facts w workers lacks valid few = record {
-  asks = ask_facts w workers lacks valid few;
+pub step_facts : (w : Parts) (workers : ℕ) (lacks : Lacks) → IsValid w → is_closed w ≡ true → workers ≤ 16 → StepFacts w workers lacks
+step_facts w workers lacks valid closed few = record {
+  asks = ask_facts w workers lacks valid closed few;
   answers = λ es e run step. step_answers w workers lacks valid few es e run step;
   stays = λ es e run place other. run_stays w workers lacks es e valid few run place other;
 }

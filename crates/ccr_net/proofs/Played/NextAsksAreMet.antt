@@ -3,6 +3,7 @@ use Rattle.std.proofs.Common.{◌≡◌, ◌≤◌, ℕ, true, List}
 use Rattle.std.specs.Prelude.{is_some}
 use Rattle.ccr_wiring.specs.declared.parts.Parts.{Parts}
 use Rattle.ccr_wiring.specs.Valid.{IsValid}
+use Rattle.ccr_wiring.specs.Openness.{is_closed}
 use Rattle.ccr_claim.specs.declared.asks.Asked.{Asked}
 use Rattle.ccr_runs.specs.declared.entries.Entry.{Entry}
 use Rattle.ccr_runs.specs.Places.{note_of}
@@ -14,9 +15,9 @@ use Rattle.ccr_net.proofs.Known.RunsAreKnown.{next_named}
 use Rattle.ccr_net.proofs.Played.NextAsksAreAnswered.{AskFacts, IsNextAsk}
 use Rattle.ccr_base.proofs.Options.{is_there}
 
-module _ (w : Parts) (workers : ℕ) (lacks : Lacks) (valid : IsValid w) (few : workers ≤ 16) where
+module _ (w : Parts) (workers : ℕ) (lacks : Lacks) (valid : IsValid w) (closed : is_closed w ≡ true) (few : workers ≤ 16) where
   next_met : (es : List Entry) (a : ℕ) (one : Asked) → IsNextAsk w workers lacks es a one → is_some (note_of w one.place (notes_at es one.place) one.ask) ≡ true
-  next_met es a one following = asks_met w workers lacks es a one valid few following.run following.low following.asks
+  next_met es a one following = asks_met w workers lacks es a one valid closed few following.run following.low following.asks
 
   named : (es : List Entry) (a : ℕ) (one : Asked) → IsNextAsk w workers lacks es a one → IsNamed w one
   named es a one following =

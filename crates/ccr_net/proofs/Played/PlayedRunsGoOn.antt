@@ -11,6 +11,7 @@ use Rattle.ccr_base.specs.declared.names.Place.{Place}
 use Rattle.ccr_wiring.specs.declared.parts.Parts.{Parts}
 use Rattle.ccr_wiring.specs.Valid.{IsValid}
 use Rattle.ccr_wiring.proofs.Soundness.{sound}
+use Rattle.ccr_wiring.specs.Openness.{is_closed}
 use Rattle.ccr_base.proofs.Booleans.{eq-self, same_number, differ}
 use Rattle.ccr_base.proofs.Options.{get-push, get-set_same, get-set_other}
 use Rattle.ccr_places.specs.declared.notes.Note.{Note}
@@ -80,12 +81,12 @@ by_actor w act entry = by act.note.note
 
 -- ---- the next ask of an actor of a played run
 
-module _ (w : Parts) (workers : ℕ) (lacks : Lacks) (valid : IsValid w) (few : workers ≤ 16) (acts : List (Act Deed)) (run : IsRunFrom (protocol w lacks) (length w.posters + workers) (scene w) (cast (protocol w lacks)) acts) where
+module _ (w : Parts) (workers : ℕ) (lacks : Lacks) (valid : IsValid w) (closed : is_closed w ≡ true) (few : workers ≤ 16) (acts : List (Act Deed)) (run : IsRunFrom (protocol w lacks) (length w.posters + workers) (scene w) (cast (protocol w lacks)) acts) where
   abbrev so_far : List Entry
   so_far = entries_of w acts
 
   pub match_so : Matches w workers lacks (entries_of w acts) (scene_after w acts) (cast_from w lacks (scene w) (cast (protocol w lacks)) acts)
-  match_so = matches_after w workers lacks (step_facts w workers lacks valid few) [] (scene w) (cast (protocol w lacks)) acts (Matches-begins w workers lacks) run
+  match_so = matches_after w workers lacks (step_facts w workers lacks valid closed few) [] (scene w) (cast (protocol w lacks)) acts (Matches-begins w workers lacks) run
 
   module _ (k : ℕ) (low : k < length w.posters + workers) (one : Asked) (asks : actors.next w k (lacks k) (replies_of w (entries_of w acts) k) ≡ Some one) where
     abbrev act : Act Deed
@@ -98,7 +99,7 @@ module _ (w : Parts) (workers : ℕ) (lacks : Lacks) (valid : IsValid w) (few : 
     stamp_so = let same = cast_stamp w lacks (scene w) (cast (protocol w lacks)) acts k in rw same (omega arith)
 
     pub adds_so : Adds w workers lacks (entries_of w acts) (scene_after w acts) (cast_from w lacks (scene w) (cast (protocol w lacks)) acts) (act_after w acts k one.place one.ask)
-    adds_so = act_adds w workers lacks (step_facts w workers lacks valid few) (entries_of w acts) (scene_after w acts) (cast_from w lacks (scene w) (cast (protocol w lacks)) acts) act match_so low asks_so refl stamp_so
+    adds_so = act_adds w workers lacks (step_facts w workers lacks valid closed few) (entries_of w acts) (scene_after w acts) (cast_from w lacks (scene w) (cast (protocol w lacks)) acts) act match_so low asks_so refl stamp_so
 
     pub run_so : IsRunFrom (protocol w lacks) (length w.posters + workers) (scene w) (cast (protocol w lacks)) (acts ++ act_after w acts k one.place one.ask ∷ [])
     run_so = run_push w lacks (length w.posters + workers) (scene w) (cast (protocol w lacks)) acts act run low asks_so refl stamp_so
@@ -216,9 +217,10 @@ started_push w n team a so_far is = (omega (arith, so_far.0, length-append team 
 
 -- ---- one turn
 
-pub played_start : (workers : ℕ) (state : PlainState) (team : List Acting) → IsValid state.wiring → state.acts ≡ [] → AreStarted state.wiring (length state.wiring.posters + workers) team → IsPlayed workers never state team []
-played_start workers state team valid none begun = record {
+pub played_start : (workers : ℕ) (state : PlainState) (team : List Acting) → IsValid state.wiring → is_closed state.wiring ≡ true → state.acts ≡ [] → AreStarted state.wiring (length state.wiring.posters + workers) team → IsPlayed workers never state team []
+played_start workers state team valid closed none begun = record {
   valid = valid;
+  closed = closed;
   run = subst (λ acts. IsRunFrom (protocol state.wiring never) (length state.wiring.posters + workers) (scene state.wiring) (cast (protocol state.wiring never)) acts) (sym none) tt;
   same = ap (entries_of state.wiring) (sym none);
   count = begun.0;
@@ -226,7 +228,7 @@ played_start workers state team valid none begun = record {
 }
 
 pub played_run : (workers : ℕ) (lacks : Lacks) (state : PlainState) (team : List Acting) (entries : List Entry) → workers ≤ 16 → IsPlayed workers lacks state team entries → IsRunAfter state.wiring workers lacks [] entries
-played_run workers lacks state team entries few played = subst (IsRunAfter state.wiring workers lacks []) (sym played.same) (match_so state.wiring workers lacks played.valid few state.acts played.run).run
+played_run workers lacks state team entries few played = subst (IsRunAfter state.wiring workers lacks []) (sym played.same) (match_so state.wiring workers lacks played.valid played.closed few state.acts played.run).run
 
 module _ (workers : ℕ) (lacks : Lacks) (state : PlainState) (team : List Acting) (entries : List Entry) (few : workers ≤ 16) (played : IsPlayed workers lacks state team entries) (k : ℕ) (low : k < length team) (a : Acting) (there : slice_get team k ≡ Some a) where
   abbrev w : Parts
@@ -245,7 +247,7 @@ module _ (workers : ℕ) (lacks : Lacks) (state : PlainState) (team : List Actin
   asks_next one asks = ap (λ es. actors.next w k (lacks k) (replies_of w es k)) (sym played.same) ∙ sym (next_same w lacks entries k a acting_so) ∙ asks
 
   pub met_so : IsMet state a
-  met_so one asks = (adds_so w workers lacks played.valid few state.acts played.run k seat_so one (asks_next one asks)).met
+  met_so one asks = (adds_so w workers lacks played.valid played.closed few state.acts played.run k seat_so one (asks_next one asks)).met
 
   pub rest_made : next a ≡ None → entries ≡ with_made entries (made_by state.wiring lacks entries k)
   rest_made none = ap (λ o. with_made entries (option_and_then (entry_for w entries k) o)) (sym none ∙ next_same w lacks entries k a acting_so)
@@ -264,13 +266,13 @@ module _ (workers : ℕ) (lacks : Lacks) (state : PlainState) (team : List Actin
     more_so = step.made.added ∙ ap (λ es. es ++ step.made.entry ∷ []) played.same
 
     pub step_made : more ≡ with_made entries (made_by state.wiring lacks entries k)
-    step_made = step.made.added ∙ ap (with_made entries) (sym (ap (λ es. made_by w lacks es k) played.same ∙ made_so w workers lacks played.valid few state.acts played.run k seat_so step.one (asks_next step.one step.asks) step.made.entry entry_so))
+    step_made = step.made.added ∙ ap (with_made entries) (sym (ap (λ es. made_by w lacks es k) played.same ∙ made_so w workers lacks played.valid played.closed few state.acts played.run k seat_so step.one (asks_next step.one step.asks) step.made.entry entry_so))
 
     own_heard : replies_of w more k ≡ replies_of w entries k ++ step.made.reply ∷ []
-    own_heard = ap (λ es. replies_of w es k) more_so ∙ heard_own w workers lacks played.valid few state.acts played.run k seat_so step.one (asks_next step.one step.asks) step.made.entry step.made.reply entry_so step.made.replied ∙ ap (λ es. replies_of w es k ++ step.made.reply ∷ []) (sym played.same)
+    own_heard = ap (λ es. replies_of w es k) more_so ∙ heard_own w workers lacks played.valid played.closed few state.acts played.run k seat_so step.one (asks_next step.one step.asks) step.made.entry step.made.reply entry_so step.made.replied ∙ ap (λ es. replies_of w es k ++ step.made.reply ∷ []) (sym played.same)
 
     others_heard : (j : ℕ) → (k == j) ≡ false → replies_of w more j ≡ replies_of w entries j
-    others_heard j other = ap (λ es. replies_of w es j) more_so ∙ heard_other w workers lacks played.valid few state.acts played.run k seat_so step.one (asks_next step.one step.asks) step.made.entry entry_so j other ∙ ap (λ es. replies_of w es j) (sym played.same)
+    others_heard j other = ap (λ es. replies_of w es j) more_so ∙ heard_other w workers lacks played.valid played.closed few state.acts played.run k seat_so step.one (asks_next step.one step.asks) step.made.entry entry_so j other ∙ ap (λ es. replies_of w es j) (sym played.same)
 
     each_acts : (j : ℕ) (x : Acting) → slice_get (slice_set team k b) j ≡ Some x → IsActing w lacks more j x
     each_acts j x at = by (k == j) refl
@@ -287,7 +289,8 @@ module _ (workers : ℕ) (lacks : Lacks) (state : PlainState) (team : List Actin
         let P : Parts → Type 0 = λ x. IsPlayed workers lacks (record { wiring = x; acts = later.acts; room = later.room }) (slice_set team k b) more in
         subst P (sym step.made.wiring) (record {
           valid = played.valid;
-          run = subst (λ acts. IsRunFrom (protocol w lacks) (length w.posters + workers) (scene w) (cast (protocol w lacks)) acts) (sym acts_so) (run_so w workers lacks played.valid few state.acts played.run k seat_so step.one (asks_next step.one step.asks));
+          closed = played.closed;
+          run = subst (λ acts. IsRunFrom (protocol w lacks) (length w.posters + workers) (scene w) (cast (protocol w lacks)) acts) (sym acts_so) (run_so w workers lacks played.valid played.closed few state.acts played.run k seat_so step.one (asks_next step.one step.asks));
           same = more_so ∙ sym (entries-push w state.acts (act_after w state.acts k step.one.place step.one.ask) step.made.entry entry_so) ∙ ap (entries_of w) (sym acts_so);
           count = length-set team k b ∙ played.count;
           acting = each_acts;

@@ -59,7 +59,7 @@ abbrev pub poster_part : ℕ → List Sent → PosterPart
 poster_part name ss = record { name = name ∷ []; posts = ss }
 
 abbrev pub parts : List QueuePart → List ℕ → List HandlerPart → List ArbiterPart → List PosterPart → Parts
-parts qs names hs xs ps = record { version = 1; budget = 10000; queues = qs; ports = map (λ name. name ∷ []) names; sets = []; causes = []; handlers = hs; arbiters = xs; domains = []; posters = ps }
+parts qs names hs xs ps = record { version = 1; budget = 10000; queues = qs; ports = map (λ name. name ∷ []) names; sets = []; causes = []; handlers = hs; arbiters = xs; domains = []; posters = ps; open_posters = []; open_handlers = [] }
 
 abbrev pub entry : ℕ → Place → ℕ → Note → Entry
 entry a p s n = record { actor = a; place = p; stamp = s; note = n }

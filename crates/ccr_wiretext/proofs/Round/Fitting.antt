@@ -1,5 +1,5 @@
 -- A valid wiring, whole: it fits, it is small, its names are good and no port is crowded.
-use Rattle.std.proofs.Common.{◌≡◌, ℕ, ◌<◌, ◌≤◌, Bool, true, false, List, length, refl, arith}
+use Rattle.std.proofs.Common.{◌≡◌, ℕ, ◌<◌, ◌≤◌, Bool, true, false, List, length, refl, sym, ◌∙◌, arith}
 use Rattle.std.specs.Prelude.{◌==◌, ◌&&◌, ◌||◌, not, nat_lt}
 use Rattle.std.specs.List.{list_any}
 use Rattle.std.proofs.lemmas.Bool.{ltb-false as at_most}
@@ -8,10 +8,12 @@ use Rattle.ccr_base.specs.Lists.{are_apart}
 use Rattle.ccr_wiring.specs.declared.parts.Parts.{Parts}
 use Rattle.ccr_wiring.specs.declared.parts.QueuePart.{QueuePart}
 use Rattle.ccr_wiring.specs.declared.parts.CausePart.{CausePart}
-use Rattle.ccr_wiring.specs.Groups.{is_misgrouped, is_branchless}
+use Rattle.ccr_wiring.specs.Groups.{is_misgrouped, has_scripted, is_branchless}
 use Rattle.ccr_wiring.specs.Names.{declared_names}
-use Rattle.ccr_wiring.specs.References.{set_is_dangling, cause_is_dangling, handler_is_dangling, arbiter_is_dangling, poster_is_dangling, has_dangling_set, has_dangling_cause, has_dangling_handler, has_dangling_arbiter, has_dangling_poster, domain_is_dangling, has_dangling_domain}
-use Rattle.ccr_wiring.specs.Repeats.{arbiter_repeats, set_repeats, poster_repeats, has_repeating_set, has_repeating_arbiter, has_repeating_poster, members_in_all, has_repeating_domain}
+use Rattle.ccr_wiring.specs.Openness.{is_closed}
+use Rattle.ccr_wiring.proofs.Closed.{closed_bound}
+use Rattle.ccr_wiring.specs.References.{set_is_dangling, cause_is_dangling, handler_is_dangling, arbiter_is_dangling, poster_is_dangling, has_dangling_set, has_dangling_cause, has_dangling_handler, has_dangling_arbiter, has_dangling_poster, domain_is_dangling, has_dangling_domain, has_dangling_open}
+use Rattle.ccr_wiring.specs.Repeats.{arbiter_repeats, set_repeats, poster_repeats, has_repeating_set, has_repeating_arbiter, has_repeating_poster, members_in_all, has_repeating_domain, has_repeating_open}
 use Rattle.ccr_wiring.specs.Limits.{policy_is_outside, set_is_outside, handler_is_outside, arbiter_is_outside, has_branches_above, has_posts_above, domain_is_outside}
 use Rattle.ccr_wiring.specs.Versions.{handler_is_newer, poster_is_newer}
 use Rattle.ccr_wiring.specs.Spots.{times, named_ports}
@@ -36,7 +38,7 @@ record There (parts : Parts) : Type 0 where
 
 there : (parts : Parts) → NoCodes parts → There parts
 there parts none =
-    let z = neither (has_dangling_set parts || has_dangling_cause parts || has_dangling_handler parts || has_dangling_arbiter parts || has_dangling_poster parts) (has_dangling_domain parts) none.references in
+    let z = neither (has_dangling_set parts || has_dangling_cause parts || has_dangling_handler parts || has_dangling_arbiter parts || has_dangling_poster parts) (has_dangling_domain parts) (neither (has_dangling_set parts || has_dangling_cause parts || has_dangling_handler parts || has_dangling_arbiter parts || has_dangling_poster parts || has_dangling_domain parts) (has_dangling_open parts) none.references).0 in
     let a = neither (has_dangling_set parts || has_dangling_cause parts || has_dangling_handler parts || has_dangling_arbiter parts) (has_dangling_poster parts) z.0 in
     let b = neither (has_dangling_set parts || has_dangling_cause parts || has_dangling_handler parts) (has_dangling_arbiter parts) a.0 in
     let c = neither (has_dangling_set parts || has_dangling_cause parts) (has_dangling_handler parts) b.0 in
@@ -51,13 +53,13 @@ record Once (parts : Parts) : Type 0 where
 
 once : (parts : Parts) → NoCodes parts → Once parts
 once parts none =
-    let z = neither (has_repeating_set parts || has_repeating_arbiter parts || has_repeating_poster parts) (has_repeating_domain parts) none.repeats in
+    let z = neither (has_repeating_set parts || has_repeating_arbiter parts || has_repeating_poster parts) (has_repeating_domain parts) (neither (has_repeating_set parts || has_repeating_arbiter parts || has_repeating_poster parts || has_repeating_domain parts) (has_repeating_open parts) none.repeats).0 in
     let a = neither (has_repeating_set parts || has_repeating_arbiter parts) (has_repeating_poster parts) z.0 in
     let b = neither (has_repeating_set parts) (has_repeating_arbiter parts) a.0 in
     record { sets = b.0; arbiters = b.1; posters = a.1; domains = z.1 }
 
-pub valid_counts : (parts : Parts) → NoCodes parts → Counts parts
-valid_counts parts none =
+pub valid_counts : (parts : Parts) → is_closed parts ≡ true → NoCodes parts → Counts parts
+valid_counts parts closed none =
     let limits = within parts none.limits in
     let queues : Bool = nat_lt 16 (length parts.queues) in
     let ports : Bool = nat_lt 256 (length parts.ports) in
@@ -77,7 +79,7 @@ valid_counts parts none =
     let g = neither (queues || ports) sets f.0 in
     let h = neither queues ports g.0 in
     record {
-      budget = at_most 10000 parts.budget limits.budget;
+      budget = at_most 10000 parts.budget (sym (closed_bound parts closed) ∙ limits.budget);
       queues = at_most 16 (length parts.queues) h.0;
       ports = at_most 256 (length parts.ports) h.1;
       sets = at_most 64 (length parts.sets) g.1;
@@ -97,16 +99,16 @@ record Olds (parts : Parts) : Type 0 where
 
 olds : (parts : Parts) → NoCodes parts → Olds parts
 olds parts none =
-    let parted = by (parts.version == 1) (parts.version == 2) (list_any handler_is_newer parts.handlers) (list_any poster_is_newer parts.posters) none.version none.newer in
+    let parted = by (parts.version == 1) (parts.version == 2) (list_any handler_is_newer parts.handlers) (list_any poster_is_newer parts.posters) (not (is_closed parts)) none.version none.newer in
     record { handlers = parted.0; posters = parted.1 }
   where
-    by : (a b x y : Bool) → (not a && not b) ≡ false → (a && (x || y)) ≡ false → ((not b && x) ≡ false) × ((not b && y) ≡ false)
-    by a true x y known new = (refl, refl)
-    by true false x y known new = neither x y new
-    by false false x y known new = absurd cc
+    by : (a b x y z : Bool) → (not a && not b) ≡ false → (a && (x || y || z)) ≡ false → ((not b && x) ≡ false) × ((not b && y) ≡ false)
+    by a true x y z known new = (refl, refl)
+    by true false x y z known new = neither x y (neither (x || y) z new).0
+    by false false x y z known new = absurd cc
 
-pub valid_fits : (parts : Parts) → NoCodes parts → Fits parts
-valid_fits parts none =
+pub valid_fits : (parts : Parts) → is_closed parts ≡ true → NoCodes parts → Fits parts
+valid_fits parts closed none =
     let named = there parts none in
     let apart = once parts none in
     let limits = within parts none.limits in
@@ -139,7 +141,7 @@ valid_fits parts none =
           parts.arbiters
           (none_of_two (λ part. arbiter_is_dangling parts part || arbiter_repeats part) (λ part. arbiter_is_outside part || (is_misgrouped part || is_branchless part)) parts.arbiters
           (none_of_two (arbiter_is_dangling parts) arbiter_repeats parts.arbiters named.arbiters apart.arbiters)
-          (none_of_two arbiter_is_outside (λ part. is_misgrouped part || is_branchless part) parts.arbiters limits.arbiters (none_of_two is_misgrouped is_branchless parts.arbiters none.groups none.branches)));
+          (none_of_two arbiter_is_outside (λ part. is_misgrouped part || is_branchless part) parts.arbiters limits.arbiters (none_of_two is_misgrouped is_branchless parts.arbiters (neither (list_any is_misgrouped parts.arbiters) (has_scripted parts) none.groups).0 none.branches)));
       posters = each_if (PosterFit parts.version (length parts.ports) (length parts.causes)) (λ part. poster_is_dangling parts part || (poster_repeats part || newer_in parts.version poster_is_newer part))
           (λ part e.
           let a = neither (poster_is_dangling parts part) (poster_repeats part || newer_in parts.version poster_is_newer part) e in
@@ -152,6 +154,7 @@ valid_fits parts none =
           (λ part e. let a = neither (domain_is_dangling parts part) (domain_is_outside part) e in domain_fits parts part a.0 a.1)
           parts.domains (none_of_two (domain_is_dangling parts) domain_is_outside parts.domains named.domains (neither (nat_lt 128 (length parts.domains)) (list_any domain_is_outside parts.domains) limits.domains).1);
       combined = not_refuted (are_apart (members_in_all parts.domains)) apart.domains;
+      closed = closed;
     }
 
 pub valid_names : (parts : Parts) → NoCodes parts → Good (declared_names parts)

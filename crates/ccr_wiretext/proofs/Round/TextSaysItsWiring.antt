@@ -8,6 +8,8 @@ use Rattle.ccr_text.specs.Spelling.{AreWords, AreLines as AreClean, text_of, spe
 use Rattle.ccr_text.specs.Fields.{Words}
 use Rattle.ccr_text.proofs.Digits.{AreReadAgain}
 use Rattle.ccr_wiring.specs.declared.parts.Parts.{Parts}
+use Rattle.ccr_wiring.specs.Openness.{is_closed}
+use Rattle.ccr_wiring.proofs.Closed.{shut_is}
 use Rattle.ccr_wiring.specs.declared.parts.QueuePart.{QueuePart}
 use Rattle.ccr_wiring.specs.declared.parts.SetPart.{SetPart}
 use Rattle.ccr_wiring.specs.declared.parts.CausePart.{CausePart}
@@ -101,7 +103,7 @@ good_to front more good = good_front (names_of front) (names_of more) (subst Goo
 
 -- what each kind leads to
 abbrev some_parts : Parts → Parts
-some_parts w = record { version = w.version; budget = w.budget; queues = []; ports = []; sets = []; causes = []; handlers = []; arbiters = []; domains = []; posters = [] }
+some_parts w = record { version = w.version; budget = w.budget; queues = []; ports = []; sets = []; causes = []; handlers = []; arbiters = []; domains = []; posters = []; open_posters = []; open_handlers = [] }
 
 abbrev with_queues : Parts → Parts
 with_queues w = record (some_parts w) { queues = w.queues }
@@ -123,6 +125,9 @@ with_arbiters w = record (with_handlers w) { arbiters = w.arbiters }
 
 abbrev with_domains : Parts → Parts
 with_domains w = record (with_arbiters w) { domains = w.domains }
+
+abbrev with_posters : Parts → Parts
+with_posters w = record w { open_posters = []; open_handlers = [] }
 
 budget_step : AreReadAgain → (version n : ℕ) → n ≤ 10000 → IsStep (nothing version) (budget_words n) (with_budget (nothing version) n)
 unfolding keyword
@@ -183,7 +188,7 @@ seconds_lead w counts fits good =
     (sets_lead w (with_ports w) (to_ports w) w.sets known fits.sets counts.sets good.sets))
     (causes_lead w (with_sets w) (to_sets w) w.causes (ports_stay w (to_ports w) (set_entries w.sets) known) fits.causes counts.causes good.causes)
 
-thirds_lead : AreReadAgain → (w : Parts) → NoCodes w → IsValued w → Counts w → Fits w → Goods w → Leads (outside (with_causes w) (to_causes w) []) (third_lines w) (outside w (to_posters w) (named_ports w))
+thirds_lead : AreReadAgain → (w : Parts) → NoCodes w → IsValued w → Counts w → Fits w → Goods w → Leads (outside (with_causes w) (to_causes w) []) (third_lines w) (outside (with_posters w) (to_posters w) (named_ports w))
 thirds_lead again w none valued counts fits good =
     let ports = ports_stay w (to_sets w) (cause_entries w.causes) (ports_stay w (to_ports w) (set_entries w.sets) (ports_known w (to_queues w) good.ports)) in
     let causes = causes_known w (to_sets w) good.causes in
@@ -194,7 +199,7 @@ thirds_lead again w none valued counts fits good =
     record { queues = queues_stay w (to_causes w) (handler_entries w.handlers) queues; handlers = handlers_known w (to_causes w) good.handlers; ports = ports_then } in
     let acted : Declared = outside (with_arbiters w) (to_arbiters w) (named_ports w) in
     let joined : Declared = outside (with_domains w) (to_arbiters w) (named_ports w) in
-    leads_on (outside (with_causes w) (to_causes w) []) joined (outside w (to_posters w) (named_ports w)) (flat_map (handler_lines w) w.handlers ++ flat_map (arbiter_lines w) w.arbiters ++ map (combine_words w) w.domains) (flat_map (poster_lines w) w.posters)
+    leads_on (outside (with_causes w) (to_causes w) []) joined (outside (with_posters w) (to_posters w) (named_ports w)) (flat_map (handler_lines w) w.handlers ++ flat_map (arbiter_lines w) w.arbiters ++ map (combine_words w) w.domains) (flat_map (poster_lines w) w.posters)
     (leads_on (outside (with_causes w) (to_causes w) []) acted joined (flat_map (handler_lines w) w.handlers ++ flat_map (arbiter_lines w) w.arbiters) (map (combine_words w) w.domains)
     (leads_on (outside (with_causes w) (to_causes w) []) (outside (with_handlers w) (to_handlers w) []) acted (flat_map (handler_lines w) w.handlers) (flat_map (arbiter_lines w) w.arbiters)
     (handlers_lead again w (with_causes w) (to_causes w) w.handlers ports causes fits.handlers valued.0 counts.handlers good.handlers)
@@ -206,15 +211,16 @@ thirds_lead again w none valued counts fits good =
 abbrev lines_behind : Parts → List Words
 lines_behind w = first_lines w ++ second_lines w ++ third_lines w
 
-whole_leads : AreReadAgain → (w : Parts) → IsValid w → IsValued w → Leads (nothing w.version) (lines_behind w) (outside w (to_posters w) (named_ports w))
-whole_leads again w valid valued =
+whole_leads : AreReadAgain → (w : Parts) → IsValid w → is_closed w ≡ true → IsValued w → Leads (nothing w.version) (lines_behind w) (outside w (to_posters w) (named_ports w))
+whole_leads again w valid closed valued =
     let none = no_codes w valid in
-    let counts = valid_counts w none in
-    let fits = valid_fits w none in
+    let counts = valid_counts w closed none in
+    let fits = valid_fits w closed none in
     let good = goods w none in
-    leads_on (nothing w.version) (outside (with_causes w) (to_causes w) []) (outside w (to_posters w) (named_ports w)) (first_lines w ++ second_lines w) (third_lines w)
+    subst (λ (p : Parts). Leads (nothing w.version) (lines_behind w) (outside p (to_posters w) (named_ports w))) (shut_is w closed) (
+    leads_on (nothing w.version) (outside (with_causes w) (to_causes w) []) (outside (with_posters w) (to_posters w) (named_ports w)) (first_lines w ++ second_lines w) (third_lines w)
     (leads_on (nothing w.version) (outside (with_queues w) (to_queues w) []) (outside (with_causes w) (to_causes w) []) (first_lines w) (second_lines w) (firsts_lead again w counts fits good) (seconds_lead w counts fits good))
-    (thirds_lead again w none valued counts fits good)
+    (thirds_lead again w none valued counts fits good))
 
 -- ---- the text
 
@@ -244,14 +250,14 @@ lines_are : (w : Parts) → canonical_lines w ≡ version_words w.version ∷ li
 unfolding queue_lines port_lines acting_lines
 lines_are w = refl
 
-is_text : AreReadAgain → FoundAgain → (w : Parts) → IsValid w → IsValued w → IsText (spelling w) w
-is_text again found w valid valued =
+is_text : AreReadAgain → FoundAgain → (w : Parts) → IsValid w → is_closed w ≡ true → IsValued w → IsText (spelling w) w
+is_text again found w valid closed valued =
     let final : Declared = outside w (to_posters w) (named_ports w) in
-    let leads = whole_leads again w valid valued in
+    let leads = whole_leads again w valid closed valued in
     let head = head_is w.version (no_codes w valid).version in
     let clean : AreClean (version_words w.version ∷ lines_behind w) = (head.1, leads_clean (nothing w.version) (lines_behind w) final leads) in
     let same : lines_of (spelling w) ≡ spelled_lines 1 (version_words w.version ∷ lines_behind w) = ap (λ (lines : List Words). lines_of (text_of lines)) (lines_are w) ∙ found (version_words w.version ∷ lines_behind w) clean in
     subst (λ lines. AreHeadedLines lines w) (sym same) (refl, inr (w.version, head.0, leads_say 2 (nothing w.version) (lines_behind w) final leads refl))
 
-pub written_read : AreReadAgain → FoundAgain → (w : Parts) → IsValid w → IsValued w → reading_text (spelling w) ≡ Ok w
-written_read again found w valid valued = text_read (spelling w) w (is_text again found w valid valued)
+pub written_read : AreReadAgain → FoundAgain → (w : Parts) → IsValid w → is_closed w ≡ true → IsValued w → reading_text (spelling w) ≡ Ok w
+written_read again found w valid closed valued = text_read (spelling w) w (is_text again found w valid closed valued)

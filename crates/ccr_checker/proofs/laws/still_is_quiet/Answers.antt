@@ -8,8 +8,8 @@ use Rattle.ccr_checker.proofs.Stillness.{is_still-first}
 use Rattle.ccr_checker.proofs.laws.still_is_quiet.Goals as goal
 
 pub returns-clause-still : goal.returns-clause-still
-returns-clause-still c = λ w h valid still.
-    c.none_first_is_quiet.ensures w (length w.posters) h (c.valid_wirings_are_sound.ensures w valid).queues (none_is (first w (length w.posters) h) (is_still-first w (length w.posters) h ∙ still))
+returns-clause-still c = λ w h valid closed still.
+    c.none_first_is_quiet.ensures w (length w.posters) h (c.valid_wirings_are_sound.ensures w valid).queues closed (none_is (first w (length w.posters) h) (is_still-first w (length w.posters) h ∙ still))
 
 pub returns-clause-left : goal.returns-clause-left
 returns-clause-left c = λ w h valid legal left.

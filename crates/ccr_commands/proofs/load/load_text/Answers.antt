@@ -2,12 +2,19 @@ use Rattle.std.proofs.Common.{◌≡◌, ◌∙◌, ◌∷◌, ◌++◌, ℕ, Li
 use Rattle.std.proofs.lemmas.Result.{IfOk-weaker}
 use Rattle.std.specs.Prelude.{codes, decimal}
 use Rattle.ccr_wiring.specs.declared.parts.Parts.{Parts}
+use Rattle.ccr_wiring.specs.Openness.{is_closed}
 use Rattle.ccr_model.specs.declared.history.Totals.{Totals}
 use Rattle.ccr_model.specs.Legal.{IsLegal, is_complete}
 use Rattle.ccr_model.specs.Order.{IsFinished}
 use Rattle.ccr_commands.specs.Loads.{IsLoadOf, totals_of}
 use Rattle.ccr_commands.proofs.TotalsAreTold.{told_totals}
 use Rattle.ccr_commands.proofs.load.load_text.Goals as goal
+
+pub first_history-requires-clause-closed : goal.first_history-requires-clause-closed
+first_history-requires-clause-closed g c = ap is_closed c.in_ok-wiring.ensures
+
+pub count_to_end-requires-clause-closed : goal.count_to_end-requires-clause-closed
+count_to_end-requires-clause-closed g c = ap is_closed c.in_ok-wiring.ensures
 
 pub returns : goal.returns
 returns g c =

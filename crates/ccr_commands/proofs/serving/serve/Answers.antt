@@ -1,6 +1,7 @@
 use Rattle.std.proofs.Common.{◌≡◌, ◌∙◌, ◌∷◌, ◌++◌, List, [], true, false, None, subst}
 use Rattle.std.specs.Prelude.{codes}
 use Rattle.ccr_wiring.specs.declared.parts.Parts.{Parts}
+use Rattle.ccr_wiring.specs.Openness.{is_closed}
 use Rattle.ccr_model.specs.Legal.{IsLegal, IsQuiet, is_complete}
 use Rattle.ccr_text.specs.Spelling.{text_of}
 use Rattle.ccr_trace.specs.HistoryText.{history_text}
@@ -9,6 +10,9 @@ use Rattle.ccr_service.specs.Telling.{answers_of}
 use Rattle.ccr_commands.specs.Runs.{IsRunHistory}
 use Rattle.ccr_commands.specs.Services.{client_lines}
 use Rattle.ccr_commands.proofs.serving.serve.Goals as goal
+
+pub run_history-requires-clause-closed : goal.run_history-requires-clause-closed
+run_history-requires-clause-closed g c = ap is_closed c.in_ok-wiring.ensures
 
 pub returns : goal.returns
 returns g c =

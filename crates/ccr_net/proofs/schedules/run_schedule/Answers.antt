@@ -1,6 +1,7 @@
-use Rattle.std.proofs.Common.{◌≡◌, ◌+◌, List, [], length, drop, get_or, sym, ap, ◌∙◌, subst, arith}
+use Rattle.std.proofs.Common.{◌≡◌, true, ◌+◌, List, [], length, drop, get_or, sym, ap, ◌∙◌, subst, arith}
 use Rattle.ccr_base.proofs.Lists.{take_front}
 use Rattle.ccr_wiring.specs.declared.parts.Parts.{Parts}
+use Rattle.ccr_wiring.specs.Openness.{is_closed}
 use Rattle.ccr_wiring.specs.Valid.{IsValid}
 use Rattle.ccr_actor.specs.Acting.{Acting}
 use Rattle.ccr_runs.specs.EntryRuns.{made_by, never, scheduled_from, with_made, IsRunAfter}
@@ -17,7 +18,7 @@ loop-turn-init c =
     let begun : AreStarted w (length w.posters + workers) team = subst (λ n. AreStarted w n team) c.actor_count-count.ensures.count c.in_ok-actors.ensures in
     let there = sym c.in_ok-places.ensures.wiring in
     record {
-      played = subst (IsPlayed workers never places team) (sym c.new-entries.ensures.items) (played_start workers places team (subst IsValid there c.actor_count-count.ensures.valid) c.in_ok-places.ensures.acts (subst (λ (x : Parts). AreStarted x (length x.posters + workers) team) there begun));
+      played = subst (IsPlayed workers never places team) (sym c.new-entries.ensures.items) (played_start workers places team (subst IsValid there c.actor_count-count.ensures.valid) (subst (λ (x : Parts). is_closed x ≡ true) there c.requires.closed) c.in_ok-places.ensures.acts (subst (λ (x : Parts). AreStarted x (length x.posters + workers) team) there begun));
       wiring = c.in_ok-places.ensures.wiring;
       ahead = ap (λ es. scheduled_from w es c.args.turns.now) c.new-entries.ensures.items;
     }

@@ -16,9 +16,9 @@ returns-clause-run g c =
     let done = its.done in
     record {
       entries = its.entries;
-      run = subst (λ (es : List Entry). IsRunAfter w c.args.workers never [] es) (sym done.entries_are) (c.played_runs_are_runs.ensures.run w c.args.workers never done.acts c.parts-valid.ensures.valid c.requires.workers done.played);
+      run = subst (λ (es : List Entry). IsRunAfter w c.args.workers never [] es) (sym done.entries_are) (c.played_runs_are_runs.ensures.run w c.args.workers never done.acts c.parts-valid.ensures.valid c.requires.closed c.requires.workers done.played);
       rest = λ actor low.
-          let same = c.played_runs_are_runs.ensures.replies w c.args.workers never done.acts c.parts-valid.ensures.valid c.requires.workers done.played actor in
+          let same = c.played_runs_are_runs.ensures.replies w c.args.workers never done.acts c.parts-valid.ensures.valid c.requires.closed c.requires.workers done.played actor in
           subst (λ (es : List Entry). IsAtEnd w es short actor) (sym done.entries_are)
           (subst (λ given. (list_any (λ n. n == actor) short ≡ true) ⊎ (next w actor None given ≡ None)) same (done.through actor low));
       threads = its.brought;
@@ -30,7 +30,7 @@ returns-clause-legal g c =
     let w = c.args.wiring.now in
     let its = c.in_ok-seen.ensures in
     let done = its.done in
-    let run : IsRun w c.args.workers its.entries = record { lacks = never; steps = subst (λ (es : List Entry). IsRunAfter w c.args.workers never [] es) (sym done.entries_are) (c.played_runs_are_runs.ensures.run w c.args.workers never done.acts c.parts-valid.ensures.valid c.requires.workers done.played) } in
+    let run : IsRun w c.args.workers its.entries = record { lacks = never; steps = subst (λ (es : List Entry). IsRunAfter w c.args.workers never [] es) (sym done.entries_are) (c.played_runs_are_runs.ensures.run w c.args.workers never done.acts c.parts-valid.ensures.valid c.requires.closed c.requires.workers done.played) } in
     subst (IsLegal w) (sym its.shown) (c.visible_runs_are_legal_and_covered.ensures.legal w c.args.workers its.entries c.parts-valid.ensures.valid c.requires.workers run)
 
 pub returns-clause-covered : goal.returns-clause-covered
@@ -38,5 +38,5 @@ returns-clause-covered g c =
     let w = c.args.wiring.now in
     let its = c.in_ok-seen.ensures in
     let done = its.done in
-    let run : IsRun w c.args.workers its.entries = record { lacks = never; steps = subst (λ (es : List Entry). IsRunAfter w c.args.workers never [] es) (sym done.entries_are) (c.played_runs_are_runs.ensures.run w c.args.workers never done.acts c.parts-valid.ensures.valid c.requires.workers done.played) } in
+    let run : IsRun w c.args.workers its.entries = record { lacks = never; steps = subst (λ (es : List Entry). IsRunAfter w c.args.workers never [] es) (sym done.entries_are) (c.played_runs_are_runs.ensures.run w c.args.workers never done.acts c.parts-valid.ensures.valid c.requires.closed c.requires.workers done.played) } in
     subst (λ h. is_covered w h ≡ true) (sym its.shown) (c.visible_runs_are_legal_and_covered.ensures.covered w c.args.workers its.entries c.parts-valid.ensures.valid c.requires.workers run)

@@ -3,6 +3,7 @@ use Rattle.std.proofs.lemmas.List.{drop_all}
 use Rattle.ccr_base.proofs.Lists.{take_front}
 use Rattle.ccr_wiring.specs.declared.parts.Parts.{Parts}
 use Rattle.ccr_wiring.specs.Valid.{IsValid}
+use Rattle.ccr_wiring.specs.Openness.{is_closed}
 use Rattle.ccr_actor.specs.Acting.{Acting}
 use Rattle.ccr_runs.specs.EntryRuns.{never, IsRun}
 use Rattle.ccr_net.specs.Schedules.{AreStarted, IsPlayed}
@@ -22,7 +23,7 @@ loop-turn-init c =
     record {
       run = nothing_yet;
       has = record {
-        played = subst (IsPlayed workers never places team) (sym c.new-entries.ensures.items) (played_start workers places team (subst IsValid there c.actor_count-count.ensures.valid) c.in_ok-places.ensures.acts (subst (λ (x : Parts). AreStarted x (length x.posters + workers) team) there begun));
+        played = subst (IsPlayed workers never places team) (sym c.new-entries.ensures.items) (played_start workers places team (subst IsValid there c.actor_count-count.ensures.valid) (subst (λ (x : Parts). is_closed x ≡ true) there c.requires.closed) c.in_ok-places.ensures.acts (subst (λ (x : Parts). AreStarted x (length x.posters + workers) team) there begun));
         number = refl;
         same = c.new-entries.ensures.items;
       };

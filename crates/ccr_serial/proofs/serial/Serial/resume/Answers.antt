@@ -7,4 +7,4 @@ pub invariant_of-result : goal.invariant_of-result
 invariant_of-result c =
     let w = c.args.wiring.now in
     let made = subst (λ h. c.in-Ok.engine.value ≡ record { wiring = w; closer = c.args.closer; history = h }) c.events.ensures c.in-Ok.ensures in
-    IsMade-behind _ c.in-Ok.engine (IsSound-resume w c.args.closer c.args.history c.parts.ensures.valid c.requires.no_poster c.requires.low c.requires.legal c.requires.attempts) made
+    IsMade-behind _ c.in-Ok.engine (IsSound-resume w c.args.closer c.args.history c.parts.ensures.valid c.requires.closed c.requires.no_poster c.requires.low c.requires.legal c.requires.attempts) made

@@ -7,5 +7,5 @@ pub returns : goal.returns
 returns c = λ w h next told. record {
   names = told.names;
   written = subst (λ (p : Parts). IsWritten p (h ++ c.args.event.now ∷ []) c.add_event.new.text) told.names (c.in_ok-add_event.ensures.written h (subst (λ (p : Parts). IsWritten p h c.args.self.now.text) (sym told.names) told.written));
-  counting = c.count.ensures w h next.valid next.tables next.legal told.counting;
+  counting = c.count.ensures w h next.valid next.closed next.tables next.legal told.counting;
 }
