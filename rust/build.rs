@@ -57,7 +57,7 @@ fn convert(name: &str, from: &Path, to: &Path) {
 }
 
 fn main() {
-    println!("cargo::rerun-if-changed=crates.txt\ncargo::rerun-if-changed=crates\ncargo::rerun-if-changed=rust/build.rs\ncargo::rerun-if-changed=rust/translate.rs");
+    println!("cargo::rerun-if-changed=crates.txt\ncargo::rerun-if-changed=crates\ncargo::rerun-if-changed=rust/build.rs\ncargo::rerun-if-changed=rust/translate");
     let (top, out) = (PathBuf::from(env::var_os("CARGO_MANIFEST_DIR").expect("cargo")), PathBuf::from(env::var_os("OUT_DIR").expect("cargo")));
     let all = crates(&read(&top.join("crates.txt")));
     let mut program = Vec::new();

@@ -1,5 +1,5 @@
 //! What stands in for the library of Rattle's toolchain, as far as the crates use it: over Rust's std alone.
-#![allow(dead_code)]
+#![cfg_attr(not(test), allow(dead_code))] // (tests use more than the program)
 
 /// A vector of items, in the memory of an allocator; Rust's own without one.
 macro_rules! vec {
@@ -31,6 +31,7 @@ pub mod maps;
 pub mod memory;
 pub mod serde_json;
 pub mod slab;
+pub mod standard;
 pub mod streams;
 pub mod texts;
 pub mod threads;
