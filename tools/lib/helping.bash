@@ -1,4 +1,5 @@
 # The usage line of the program, and the launcher's help.
+# shellcheck disable=SC2034,SC2154  # names that the launcher and its modules share
 
 usage() {
   printf '%s\ndone 1\n' "usage: ccr check|run|verify|load|record|replay|steps|steady|service|expand [--workers N] [--schedule] [--json] [--size N]"

@@ -1,4 +1,5 @@
 # What the launcher gives the program to read: standard input, or the files in place of it.
+# shellcheck disable=SC2034,SC2154  # names that the launcher and its modules share
 
 # Says what is wrong with the file where it can't be read, and ends: status 3.
 look_at_file() {

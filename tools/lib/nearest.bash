@@ -1,4 +1,5 @@
 # The nearest of some words, for what was misspelt.
+# shellcheck disable=SC2034,SC2154  # names that the launcher and its modules share
 
 # Sets `distance` to how many letters are added, left out, changed or swapped with the next from the one word to the other.
 measure() {

@@ -1,4 +1,5 @@
 # Which program the launcher runs. `top` is the top of the repository.
+# shellcheck disable=SC2034,SC2154  # names that the launcher and its modules share
 
 # Says why there is no program, and ends: status 70.
 no_program() {
@@ -30,7 +31,7 @@ take_cargos() {
   if ! is_cargo_current "$program"; then
     say "cargo builds it now, once, in about a minute"
     attend "" cargo build --release --quiet --manifest-path "$top/Cargo.toml" </dev/null >&2
-    [ "$status" -eq 0 ] && [ -x "$program" ] || no_program "cargo didn't build the program (status $status)"
+    if [ "$status" -ne 0 ] || [ ! -x "$program" ]; then no_program "cargo didn't build the program (status $status)"; fi
     touch "$program"
   fi
   export CCR_QUIET=1

@@ -1,21 +1,33 @@
 # What the text is that was read, where it isn't what is due: asked only where the program refused it. `input` is its name, `last` the end of the output.
+# shellcheck disable=SC2034,SC2154  # names that the launcher and its modules share
 
-# Sets `kind` to the bytes of the text where they are no plain text: utf-16, marked, binary, cr.
-find_bytes() {
-  local hex
-  kind=""
-  hex=$(head -c 512 "$input" | od -An -v -tx1 | tr -d ' \n')
-  case $hex in
+# Sets `kind` to what these bytes are where they are no plain text: utf-16, utf-16le, utf-16be, marked, binary.
+kind_of() {
+  case $1 in
     fffe* | feff*) kind=utf-16 ;;
     efbbbf*) kind=marked ;;
-    *) if [[ $hex =~ ^((00[0-7][0-9a-f])+|([0-7][0-9a-f]00)+)$ ]]; then
-        kind=utf-16
-      elif [[ $hex =~ ^([0-9a-f]{2})*(0[0-8bcef]|1[0-9a-f]|7f) ]]; then
+    *) if [[ $1 =~ ^([0-7][0-9a-f]00)+$ ]]; then
+        kind=utf-16le
+      elif [[ $1 =~ ^(00[0-7][0-9a-f])+$ ]]; then
+        kind=utf-16be
+      elif [[ $1 =~ ^([0-9a-f]{2})*(0[0-8bcef]|1[0-9a-f]|7f) ]]; then
         kind=binary
-      elif [[ $hex =~ ^([0-9a-f]{2})*0d ]] && [ -z "$(tr -dc '\n' <"$input" | head -c 1)" ]; then
-        kind=cr
       fi ;;
   esac
+}
+
+in_hex() {
+  head -c 512 | od -An -v -tx1 | tr -d ' \n'
+}
+
+# Sets `kind` to what the text's first bytes are, else those of the line that was refused; cr where CR ends lines and LF none.
+find_bytes() {
+  kind=""
+  kind_of "$(in_hex <"$input")"
+  [ -n "$kind" ] || kind_of "$(sed -n "$1{p;q}" "$input" | in_hex)"
+  if [ -z "$kind" ] && head -c 512 "$input" | grep -aq $'\r' && [ "$(tr -dc '\n' <"$input" | head -c 1 | wc -c)" -eq 0 ]; then
+    kind=cr
+  fi
 }
 
 # The first two words of the first line that has one and isn't skipped, and those of a line by its number.
@@ -35,10 +47,10 @@ has_line() {
 # What to do with bytes that are no plain text.
 say_bytes() {
   case $1 in
-    utf-16) echo "the text is UTF-16, and plain ASCII is due: iconv -f UTF-16 -t ASCII FILE" ;;
+    utf-16*) echo "the text is UTF-16, and plain ASCII is due: iconv -f ${1^^} -t ASCII FILE" ;;
     marked) echo "the text begins with the byte order mark of UTF-8, and plain ASCII is due: tail -c +4 FILE" ;;
     binary) echo "this is binary data, and a text is due" ;;
-    cr) echo "the lines end in CR alone, and LF is due: tr '\\r' '\\n' <FILE" ;;
+    cr) printf '%s\n' "the lines end in CR alone, and LF is due: tr '\r' '\n' <FILE" ;;
   esac
 }
 
@@ -77,7 +89,7 @@ say_history() {
   local line
   line=$(line_at "$1")
   case $line in
-    *$'\r') echo "the output's lines end in CR LF, and LF alone is due: tr -d '\\r' <OUTPUT" ;;
+    *$'\r') printf '%s\n' "the output's lines end in CR LF, and LF alone is due: tr -d '\r' <OUTPUT" ;;
     "client "*) echo "this is an output of 'service', and 'verify' judges one of 'run': run what './ccr expand' writes" ;;
     "{"*) echo "this is an output of 'run --json', and 'verify' judges one without --json" ;;
     *) if [ "$2" -eq 3 ] && ! has_line "history "; then echo "no output stands behind the wiring: ./ccr verify WIRING OUTPUT"; fi ;;
@@ -89,7 +101,7 @@ recognise() {
   local kind said number code
   read -r said number code <<<"$(grep -aE '^(refused|malformed) [0-9]+ [0-9]+$' <<<"$last" | tail -n 1)"
   [ -n "$said" ] || return 0
-  find_bytes
+  find_bytes "$number"
   if [ -n "$kind" ]; then
     say_bytes "$kind"
   elif [ "$said" = malformed ]; then

@@ -1,4 +1,5 @@
 # How the launcher runs the program, hands signals on to it, and says how far it is.
+# shellcheck disable=SC2034,SC2154  # names that the launcher and its modules share
 
 # How many bytes the process has written, where the system tells.
 written() {

@@ -1,4 +1,5 @@
 # What the launcher tells on standard error of the end of a run.
+# shellcheck disable=SC2034,SC2154  # names that the launcher and its modules share
 
 # What the branch, port, queue or handler is that makes the wiring unsteady (tools/lib/unsteady.py), where there is a python3.
 tell_unsteady() {

@@ -56,7 +56,7 @@ def shared(branches):
             for port in branch.ports():
                 if port in other.ports():
                     return other.line, (f"branch '{other.name}' takes from port '{port}', and so does branch '{branch.name}' on line {branch.line}: "
-                                        "which of them gets a message depends on who comes first")
+                                        "which of them gets a message may depend on who comes first")
     return None
 
 
@@ -65,11 +65,11 @@ def choosy(branches):
         if branch.way == "gather":
             first, second = branch.ports()
             return branch.line, (f"branch '{branch.name}' gathers from ports '{first}' and '{second}': "
-                                 "how many come from each depends on who comes first")
+                                 "how many come from each may depend on who comes first")
         for port, asked in branch.slots():
             if asked != ["any"]:
                 return branch.line, (f"branch '{branch.name}' asks '{' '.join(asked)}' of a message of port '{port}': "
-                                     "whether enough fit is said for 'any' alone")
+                                     "which messages fit may depend on who comes first")
     return None
 
 
@@ -77,13 +77,13 @@ def passing(branches):
     whose = {"once": "of a 'once' receiver", "branch": "of a choice", "teardown": "a teardown"}
     for branch in branches:
         if branch.kind in whose:
-            return branch.line, f"branch '{branch.name}' is {whose[branch.kind]}: what it ends, and when, depends on who comes first"
+            return branch.line, f"branch '{branch.name}' is {whose[branch.kind]}: what it ends or leaves may depend on who comes first"
     return None
 
 
 def dropping(discards):
     for line, name, limit in discards:
-        return line, f"queue '{name}' is 'discard {limit}': whether a task is dropped depends on who comes first"
+        return line, f"queue '{name}' is 'discard {limit}': which tasks are dropped may depend on who comes first"
     return None
 
 
@@ -91,7 +91,7 @@ def failing(branches, uncalm):
     for branch in branches:
         if branch.handler in uncalm:
             line, action = uncalm[branch.handler]
-            return line, f"handler '{branch.handler}' of branch '{branch.name}' (line {branch.line}) has '{action}': counts with 'fail' or 'await' aren't looked at"
+            return line, f"handler '{branch.handler}' of branch '{branch.name}' (line {branch.line}) has '{action}': 'steady' answers for handlers without 'fail' and 'await' alone"
     return None
 
 

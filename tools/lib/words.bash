@@ -1,4 +1,5 @@
 # What the launcher knows of the words of the program (docs/FORMATS.md, Words).
+# shellcheck disable=SC2034,SC2154  # names that the launcher and its modules share
 
 declare -A options_of=(
   [check]="--json" [run]="--workers --schedule --json" [verify]="" [load]="--workers --size --json" [record]="--workers" [replay]="" [steps]="" [steady]=""
