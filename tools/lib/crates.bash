@@ -1,4 +1,5 @@
 # What the launcher and tools/build ask of the crates. `top` is the top of the repository.
+# shellcheck disable=SC2034,SC2154  # names that the launcher and its modules share
 
 say() {
   echo "ccr: $*" >&2

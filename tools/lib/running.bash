@@ -1,4 +1,5 @@
-# How the launcher runs the program and tells about it.
+# How the launcher runs the program, hands signals on to it, and says how far it is.
+# shellcheck disable=SC2034,SC2154  # names that the launcher and its modules share
 
 # How many bytes the process has written, where the system tells.
 written() {
@@ -20,12 +21,51 @@ tell_work() {
   done
 }
 
-# Becomes the command. Where somebody looks on and types nothing, what takes long is told about.
+# Becomes the command, which a signal ends as if it had been started alone. Where somebody looks on and types nothing, what takes long is told about.
 become() {
-  if [ -t 2 ] && [ ! -t 0 ]; then
+  local told=$1
+  shift
+  trap - INT QUIT
+  if [ -n "$told" ] && [ -t 2 ] && [ ! -t 0 ]; then
     case $word in run | load | record | replay | steps | service) tell_work "$BASHPID" </dev/null >/dev/null & ;; esac
   fi
   exec "$@"
+}
+
+# Hands the signal on to the command, once that is started.
+hand_on() {
+  caught=$1
+  [ -z "$child" ] || kill -s "$1" "$child" 2>/dev/null
+}
+
+# Starts the command, hands TERM, HUP and INT on to it, and sets `status` to its own. After such a signal the launcher ends with 128 and its number.
+attend() {
+  local caught="" child="" name
+  for name in TERM HUP INT; do
+    # shellcheck disable=SC2064
+    trap "hand_on $name" "$name"
+  done
+  become "$@" <&0 &
+  child=$!
+  [ -z "$caught" ] || kill -s "$caught" "$child" 2>/dev/null
+  while :; do
+    wait "$child"
+    status=$?
+    { [ -n "$caught" ] && kill -0 "$child" 2>/dev/null; } || break
+  done
+  trap - TERM HUP INT
+  if [ -n "$caught" ]; then
+    [ -z "$copier" ] || kill "$copier" 2>/dev/null
+    exit $((128 + $(kill -l "$caught")))
+  fi
+}
+
+# Hands on what it reads, byte for byte, and writes the end of it, a line feed, and whether a write failed.
+copy_out() {
+  {
+    tee --output-error=exit /dev/fd/4 2>/dev/null >&3
+    printf '\n%s' "$?" >&4
+  } 4>&1 | tail -c 300
 }
 
 # Runs a command, hands its standard output on byte for byte, and sets `status` and `last`, the end of that output.
@@ -33,65 +73,17 @@ become() {
 run() {
   local copied
   exec 3>&1
-  last=$({
-    become "$@" 3>&- 4>&- 5>&- | tee --output-error=exit /dev/fd/4 2>/dev/null >&3
-    printf '\n%s' "${PIPESTATUS[*]}" >&4
-  } 4>&1 | tail -c 300)
-  read -r status copied <<<"${last##*$'\n'}"
-  last=${last%$'\n'*}
+  coproc copying { copy_out; }
+  # shellcheck disable=SC2154
+  exec 8>&"${copying[1]}" 9<&"${copying[0]}"
+  eval "exec ${copying[1]}>&- ${copying[0]}<&-"
+  exec 1>&8 8>&-
+  attend told "$@" 3>&- 5>&- 9<&-
+  exec 1>&3 3>&-
+  read -r -d '' -u 9 last
+  copied=${last##*$'\n'} last=${last%$'\n'*}
   [ -z "$copier" ] || kill "$copier" 2>/dev/null
-  if [ "$copied" -ne 0 ]; then
+  if [ "$copied" != 0 ]; then
     case $status in 0 | 1 | 2 | 6 | 7 | 8) status=4 ;; esac
-  fi
-}
-
-# The files one behind the other, with a line feed behind each but the last where it ends without one.
-joined() {
-  local file
-  for file in "${@:1:$#-1}"; do
-    cat -- "$file"
-    [ ! -f "$file" ] || [ -z "$(tail -c 1 -- "$file" | tr '\0' x)" ] || echo
-  done
-  cat -- "${@: -1}"
-}
-
-# Opens the files in place of standard input.
-open_files() {
-  local file
-  for file in "${files[@]}"; do
-    [ -r "$file" ] || { say "'$file' can't be read"; exit 3; }
-  done
-  if [ ${#files[@]} -eq 1 ]; then exec <"${files[0]}"; elif [ ${#files[@]} -gt 1 ]; then exec < <(joined "${files[@]}"); fi
-}
-
-# Sets `input` to a name by which what is read can be read once more, for tools/hint: the file, or a copy of what a pipe gives, which `copier` makes.
-keep_input() {
-  local at="" name
-  { read -r -u 6 _ at; } 2>/dev/null 6</proc/self/fdinfo/0
-  if [ -f /dev/fd/0 ] && [ "$at" = 0 ]; then
-    input=/proc/$$/fd/0
-  elif [ -p /dev/fd/0 ] && command -v python3 >/dev/null && name=$(mktemp 2>/dev/null); then
-    { exec 5<>"$name"; } && rm -f "$name" && input=/proc/$$/fd/5
-    exec < <(exec tee /dev/fd/5 2>/dev/null)
-    copier=$!
-  fi
-}
-
-# Whether no word stands there, or one that asks which there are.
-asks_help() {
-  case ${1---help} in
-    -h | --help | help) return 0 ;;
-  esac
-  return 1
-}
-
-# What is told on standard error of the end of a run.
-tell() {
-  if [ "$status" -eq 1 ] && asks_help "$@"; then
-    help >&2
-  elif [ "$status" -eq 1 ] && [ -n "$off" ]; then
-    say "$off (./ccr --help)"
-  else
-    "$top/tools/explain" "$status" "$last" "$word" "$input" >&2
   fi
 }

@@ -1,37 +1,10 @@
 # What the launcher knows of the words of the program (docs/FORMATS.md, Words).
+# shellcheck disable=SC2034,SC2154  # names that the launcher and its modules share
 
 declare -A options_of=(
   [check]="--json" [run]="--workers --schedule --json" [verify]="" [load]="--workers --size --json" [record]="--workers" [replay]="" [steps]="" [steady]=""
   [service]="--workers" [expand]="")
 all_words="check, run, verify, load, record, replay, steps, steady, service or expand, as in: ./ccr run --workers 4 < FILE"
-
-usage() {
-  printf '%s\ndone 1\n' "usage: ccr check|run|verify|load|record|replay|steps|steady|service|expand [--workers N] [--schedule] [--json] [--size N]"
-}
-
-help() {
-  cat <<'END'
-usage: ccr WORD [OPTIONS] [FILE ..]          where no file is named, standard input is read
-
-  check     is it a wiring? writes its canonical text                  --json
-  run       runs a wiring, writes its history and a report             --workers N, --schedule, --json
-  verify    judges a wiring with an output of run behind it
-  load      runs a generated wiring, writes the totals                 --workers N, --size N, --json
-  record    runs a wiring, writes whose turn it was, step by step      --workers N
-  replay    runs a record again, writes its history and a report
-  steps     runs a record again, writes each step
-  steady    writes the totals of a wiring, where they don't depend on who comes first
-  service   runs a service, writes what became of each request         --workers N
-  expand    writes the wiring that a service stands for
-
-  ccr run --workers 0 examples/first.ccr                   on one thread: the same output each time
-  ccr run --workers 4 < examples/service.ccr > out.txt     on threads: one of many legal outputs
-  ccr verify examples/service.ccr out.txt                  is it legal, complete, quiet?
-
---workers is 0 to 16 (4; for load 0), --size 1 to 10,000 (1,000). Standard output ends with 'done N', and N is the exit status: 0 all is well, 1 other
-words are due, 2 the text is refused, 6 a task was shed, 7 the output is wrong, 8 the text is too long (docs/FORMATS.md, What the program writes).
-END
-}
 
 # Whether it is a number from the least to the most.
 is_number() {
@@ -51,8 +24,20 @@ off_with_option() {
     --workers) is_number "$3" 0 16 || echo "--workers wants a number from 0 to 16, and '$3' is none" ;;
     --size) is_number "$3" 1 10000 || echo "--size wants a number from 1 to 10000, and '$3' is none" ;;
     --json | --schedule) [ -z "$2" ] || echo "$1 takes no value" ;;
-    *) echo "there is no option '$1': there are --workers N, --schedule, --json, --size N" ;;
+    -) echo "'-' is no file: where none is named standard input is read, and a file of that name is ./-" ;;
+    *) off_with_name "$1" ;;
   esac
+}
+
+# What is wrong with an option that there isn't.
+off_with_name() {
+  local nearest
+  find_nearest "$1" --workers --schedule --json --size --help
+  if [ -n "$nearest" ]; then
+    echo "there is no option '$1': do you mean '$nearest'?"
+  else
+    echo "there is no option '$1': there are --workers N, --schedule, --json, --size N"
+  fi
 }
 
 is_word() {
@@ -68,10 +53,11 @@ find_off() {
 }
 
 # Sets `words` to what the program is given, `word` to the one that says what it does, `files` to those that it reads in place of standard input, and
-# `off` to what is wrong with the words, where something is.
+# `off` to what is wrong with the words, where something is, and `is_asked` to yes where a word asks for help.
 read_words() {
   local has_ended="" name given=() others=()
-  words=() files=() word="" off=""
+  words=() files=() word="" off="" is_asked=""
+  [ "${1-}" != help ] || is_asked=yes
   while [ $# -gt 0 ]; do
     words+=("$1")
     if [ -n "$has_ended" ] || [[ $1 != -* ]]; then
@@ -84,6 +70,8 @@ read_words() {
       fi
     elif [ "$1" = -- ]; then
       has_ended=yes
+    elif [ "$1" = --help ] || [ "$1" = -h ]; then
+      is_asked=yes
     else
       name=${1%%=*}
       [[ " ${given[*]} " != *" $name "* ]] || find_off "$name stands twice"
@@ -101,18 +89,32 @@ read_words() {
   look_at_options "${given[@]}"
 }
 
+# What is wrong with a word that is neither an option, nor of the table, nor a file.
+off_with_word() {
+  local nearest
+  if [ -d "$1" ]; then
+    echo "'$1' is a directory"
+  elif [ -n "$word" ]; then
+    echo "there is no file '$1'"
+  else
+    find_nearest "$1" "${!options_of[@]}"
+    if [ -n "$nearest" ]; then echo "there is no word '$1': do you mean '$nearest'?"; else echo "'$1' is neither a word nor a file: the words are $all_words"; fi
+  fi
+}
+
 # The words at these places are neither options nor of the table: files to be read, or what is wrong.
 take_others() {
   local at other
   for at in "$@"; do
     other=${words[at]}
     if ! is_file "$other"; then
-      find_off "'$other' is neither a word nor a file: the words are $all_words"
+      find_off "$(off_with_word "$other")"
     elif [ "$word" = load ]; then
       find_off "'load' reads nothing: leave out '$other'"
     elif [ -z "$word" ]; then
       find_off "'$other' is a file, and a word says what to do with it, as in: ./ccr run --workers 4 $other"
     else
+      [[ $other != -* ]] || other="./$other"
       files+=("$other")
       unset "words[at]"
     fi
