@@ -1,0 +1,1 @@
+"""Differences that are planted on purpose: each has to be found."""
