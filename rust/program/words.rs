@@ -109,13 +109,15 @@ impl Words {
 
     /// Words that are neither options nor commands: files, or what is wrong.
     fn take_files(&mut self) {
-        for at in std::mem::take(&mut self.others).into_iter().rev() {
+        let others = std::mem::take(&mut self.others);
+        for &at in &others {
             let name = self.kept[at].to_string_lossy().into_owned();
-            match self.off_with_file(at, &name) {
-                Some(off) => self.off = Some(off),
-                None => self.files.insert(0, self.kept.remove(at)),
+            if let Some(off) = self.off_with_file(at, &name) {
+                self.find(off);
             }
         }
+        self.files = others.iter().map(|&at| self.kept[at].clone()).collect();
+        others.iter().rev().for_each(|&at| drop(self.kept.remove(at)));
     }
 
     fn off_with_file(&self, at: usize, name: &str) -> Option<String> {
