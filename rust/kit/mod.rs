@@ -1,5 +1,6 @@
 //! What stands in for the library of Rattle's toolchain, as far as the crates use it: over Rust's std alone.
-#![cfg_attr(not(test), allow(dead_code))] // (tests use more than the program)
+// (The crates of the tests use more than those of the program.)
+#![cfg_attr(not(test), allow(dead_code, unused_imports, unused_macros))]
 
 /// A vector of items, in the memory of an allocator; Rust's own without one.
 macro_rules! vec {
@@ -99,7 +100,7 @@ pub mod std {
     }
 
     pub mod thread {
-        pub use crate::kit::threads::{Parker, Threads, join, map_vec};
+        pub use crate::kit::threads::{Parker, Threads, map_vec};
         pub use ::std::thread::*;
     }
 
@@ -114,7 +115,6 @@ pub mod std {
 
     pub mod env {
         pub use crate::kit::streams::FillError;
-        pub use ::std::env::*;
     }
 
     pub mod process {

@@ -69,7 +69,13 @@ impl Input {
 }
 
 fn open(name: &OsStr) -> Result<Opened, String> {
-    let unread = |_| format!("'{}' can't be read", name.to_string_lossy());
+    let unread = |fault: io::Error| {
+        let name = name.to_string_lossy();
+        match fault.kind() {
+            io::ErrorKind::PermissionDenied => format!("'{name}' can't be read: permission denied"),
+            _ => format!("'{name}' can't be read: {fault}"),
+        }
+    };
     let file = File::open(name).map_err(unread)?;
     let is_regular = file.metadata().map_err(unread)?.is_file();
     Ok(Opened { name: name.to_os_string(), file, is_regular })
@@ -92,7 +98,7 @@ impl Files {
         while let (Some(now), false) = (&mut self.now, bytes.is_empty()) {
             let count = now.file.read(bytes).inspect_err(|fault| {
                 if is_told && fault.kind() != io::ErrorKind::Interrupted {
-                    say(&format!("'{}' can't be read: {fault}", now.name.to_string_lossy()));
+                    say(format_args!("'{}' can't be read: {fault}", now.name.to_string_lossy()));
                 }
             })?;
             if count > 0 {

@@ -3,8 +3,10 @@
 //! What is answered is the library's. What people are told of it stands on standard error, and nowhere where `CCR_QUIET` is set.
 #![deny(unsafe_code)]
 
+mod encoding;
 mod files;
 mod help;
+mod nearest;
 mod told;
 mod words;
 
@@ -26,13 +28,13 @@ fn main() -> ExitCode {
         Err(why) => return refuse_file(&why, is_told).into(),
     };
     if is_told && input.is_standard() && words.reads() && stdin().is_terminal() {
-        say("reading from the terminal: Ctrl-D at the beginning of a line ends the text");
+        say(format_args!("reading from the terminal: Ctrl-D at the beginning of a line ends the text"));
     }
     let mut output = Last::new(Standard::output());
     let asked: Vec<&[u8]> = words.kept.iter().map(|word| word.as_encoded_bytes()).collect();
     let status = answer(&asked, &mut input, &mut output);
     if is_told {
-        told::tell(status, &words, &output.end(), &input);
+        told::tell(status, &words, output.end(), &input);
     }
     status.into()
 }
@@ -40,7 +42,7 @@ fn main() -> ExitCode {
 /// A file that can't be read: nothing is asked for.
 fn refuse_file(why: &str, is_told: bool) -> Status {
     if is_told {
-        say(why);
+        say(format_args!("{why}"));
     }
     Status::ReadFault
 }

@@ -1,9 +1,11 @@
 //! What is told on standard error of the end of a run: what was refused on which line, or what a status is.
+use crate::encoding::other_kind;
 use crate::files::Input;
 use crate::help::HELP;
 use crate::words::Words;
 use ccr::Status;
 use ccr::sentences::{self, Text};
+use std::fmt::{self, Write as _};
 use std::io::{self, Write};
 
 /// The most of a line that is shown.
@@ -24,9 +26,9 @@ impl<W: Write> Last<W> {
         Last { to, end: [0; ROOM], length: 0 }
     }
 
-    /// The end of what was written, as a text.
-    pub fn end(&self) -> String {
-        String::from_utf8_lossy(&self.end[..self.length]).into_owned()
+    /// The end of what was written, which is ASCII.
+    pub fn end(&self) -> &str {
+        str::from_utf8(&self.end[..self.length]).unwrap_or("")
     }
 
     fn keep(&mut self, bytes: &[u8]) {
@@ -50,9 +52,18 @@ impl<W: Write> Write for Last<W> {
     }
 }
 
-/// A line on standard error. Where that can't be written nothing is said.
-pub fn say(what: &str) {
-    let _ = writeln!(io::stderr(), "ccr: {what}");
+/// A line on standard error, in one write; what is beyond its room is cut. Where it can't be written nothing is said.
+pub fn say(what: fmt::Arguments<'_>) {
+    put(format_args!("ccr: {what}\n"));
+}
+
+/// Takes no memory: it is called where none may be left.
+fn put(what: fmt::Arguments<'_>) {
+    let mut room = [0; 2048];
+    let mut left = &mut room[..];
+    let _ = left.write_fmt(what);
+    let unused = left.len();
+    let _ = io::stderr().write_all(&room[..room.len() - unused]);
 }
 
 /// Tells what the status means, and of a refusal the line.
@@ -60,58 +71,75 @@ pub fn tell(status: Status, words: &Words, end: &str, input: &Input) {
     if status == Status::Usage && words.asks_help {
         let _ = io::stderr().write_all(HELP.as_bytes());
     } else if let (Status::Usage, Some(off)) = (status, &words.off) {
-        say(&format!("{off} (ccr --help)"));
-    } else if let Some((line, what)) = found(words.command, end) {
-        say(&what);
-        input.copy().and_then(|text| shown(text, line)).into_iter().for_each(|it| eprint(&it));
+        say(format_args!("{off}"));
+    } else if let Some(found) = Found::of(words.command, end) {
+        say(format_args!("{found}"));
+        if let Some(text) = input.copy() {
+            show(text, found.line);
+        }
     } else {
         let sentence = sentences::of_status(status.number());
         if !sentence.is_empty() {
-            say(&format!("{sentence} (status {})", status.number()));
+            say(format_args!("{sentence} (status {})", status.number()));
         }
     }
 }
 
-fn eprint(line: &str) {
-    let _ = writeln!(io::stderr(), "{line}");
+/// What the end of an output tells of a line.
+struct Found {
+    line: usize,
+    sentence: &'static str,
+    /// What the number is, and the number.
+    number: Option<(&'static str, u8)>,
 }
 
-/// The line that the end of an output names, and what is told of it.
-fn found(command: Option<&str>, end: &str) -> Option<(usize, String)> {
-    let said = end.lines().rev().nth(1)?;
-    let (word, numbers) = said.split_once(' ')?;
-    let (line, code) = numbers.split_once(' ').map_or((numbers, 0), |(line, code)| (line, code.parse().unwrap_or(0)));
-    let text = if matches!(command, Some("service" | "expand")) { Text::Service } else { Text::Wiring };
-    let what = match word {
-        "refused" => format!("line {line}: {} (code {code})", sentences::of_code(text, code)),
-        "malformed" => format!("line {line}: {} (code {code})", sentences::of_history_code(code)),
-        "illegal" => format!("line {line}: {} (rule {code})", sentences::of_rule(code)),
-        "misreported" => format!("line {line}: {}", sentences::of_misreport()),
-        _ => return None,
-    };
-    Some((line.parse().ok()?, what))
-}
-
-/// The line of the text with its number, or that the text is of another kind.
-fn shown(text: &[u8], line: usize) -> Option<String> {
-    if text.starts_with(b"\xff\xfe") || text.starts_with(b"\xfe\xff") {
-        return Some(String::from("  the text is UTF-16: save it as plain ASCII"));
+impl Found {
+    fn of(command: Option<&str>, end: &str) -> Option<Self> {
+        let mut words = end.lines().nth_back(1)?.split(' ');
+        let (word, line) = (words.next()?, words.next()?.parse().ok()?);
+        let number = words.next().map_or(Some(0), |number| number.parse().ok())?;
+        let text = if matches!(command, Some("service" | "expand")) { Text::Service } else { Text::Wiring };
+        let (sentence, kind) = match word {
+            "refused" => (sentences::of_code(text, number), "code"),
+            "malformed" => (sentences::of_history_code(number), "code"),
+            "illegal" => (sentences::of_rule(number), "rule"),
+            "misreported" => (sentences::of_misreport(), ""),
+            _ => return None,
+        };
+        Some(Found { line, sentence, number: (!kind.is_empty()).then_some((kind, number)) })
     }
-    if text.starts_with(b"\xef\xbb\xbf") && line == 1 {
-        return Some(String::from("  the text begins with a byte order mark: save it without one"));
-    }
-    let found = text.split(|byte| *byte == b'\n').nth(line.checked_sub(1)?)?;
-    Some(format!("    {line} | {}", plain(found.trim_ascii())))
 }
 
-/// The bytes as printable characters, cut where they are too many.
-fn plain(bytes: &[u8]) -> String {
-    let text: String = bytes.iter().map(|byte| match byte {
-        b'\t' => String::from(" "),
-        b' '..=b'~' => char::from(*byte).to_string(),
-        other => format!("\\x{other:02x}"),
-    }).collect();
-    if text.len() > LONGEST { format!("{} ..", &text[..LONGEST]) } else { text }
+impl fmt::Display for Found {
+    fn fmt(&self, f: &mut fmt::Formatter<'_>) -> fmt::Result {
+        write!(f, "line {}: {}", self.line, self.sentence)?;
+        self.number.map_or(Ok(()), |(kind, number)| write!(f, " ({kind} {number})"))
+    }
+}
+
+/// Says of what other kind the text is, or shows the line with its number.
+fn show(text: &[u8], line: usize) {
+    if let Some(other) = other_kind(text) {
+        say(format_args!("{other}"));
+    } else if let Some(found) = line.checked_sub(1).and_then(|before| text.split(|byte| *byte == b'\n').nth(before)) {
+        put(format_args!("    {line} | {}\n", Plain(found.trim_ascii())));
+    }
+}
+
+/// Bytes as printable characters, cut where they are too many.
+struct Plain<'a>(&'a [u8]);
+
+impl fmt::Display for Plain<'_> {
+    fn fmt(&self, f: &mut fmt::Formatter<'_>) -> fmt::Result {
+        for byte in &self.0[..self.0.len().min(LONGEST)] {
+            match byte {
+                b'\t' => f.write_str(" "),
+                b' '..=b'~' => f.write_char(char::from(*byte)),
+                other => write!(f, "\\x{other:02x}"),
+            }?;
+        }
+        f.write_str(if self.0.len() > LONGEST { " .." } else { "" })
+    }
 }
 
 #[cfg(test)]
@@ -131,17 +159,18 @@ mod tests {
 
     #[test]
     fn refusals_are_told_in_words() {
-        let told = |command, end| found(Some(command), end).map(|(_, what)| what);
+        let told = |command, end| Found::of(Some(command), end).map(|found| found.to_string());
         assert_eq!(told("check", "refused 8 4\ndone 2\n").as_deref(), Some("line 8: a word is missing or too many (code 4)"));
         assert_eq!(told("expand", "refused 1 11\ndone 2\n").as_deref(), Some("line 1: a service without an operation (code 11)"));
         assert_eq!(told("verify", "misreported 24\ndone 7\n").as_deref(), Some("line 24: the report or the last line isn't what the history gives"));
         assert_eq!(told("check", "port refused\ndone 0\n"), None);
+        assert_eq!(told("check", "done 2\n"), None);
     }
 
     #[test]
     fn lines_are_shown_as_printable_characters() {
-        assert_eq!(shown(b"ccr 1\n\tport\tcaf\xc3\xa9\r\n", 2).as_deref(), Some("    2 | port caf\\xc3\\xa9"));
-        assert_eq!(shown(&[b'a'; 200], 1).map(|line| line.len()), Some("    1 | ".len() + 160 + " ..".len()));
-        assert_eq!(shown(b"\xff\xfec\0", 1).as_deref(), Some("  the text is UTF-16: save it as plain ASCII"));
+        assert_eq!(Plain(b"port\tcaf\xc3\xa9").to_string(), "port caf\\xc3\\xa9");
+        assert_eq!(Plain(&[b'a'; 200]).to_string(), format!("{} ..", "a".repeat(160)));
+        assert_eq!(Plain(&[b'a'; 160]).to_string(), "a".repeat(160));
     }
 }

@@ -59,9 +59,10 @@ fn words_that_ask_for_nothing_are_usage() {
 
 #[test]
 fn help_is_the_launchers() {
-    let words = read("tools/lib/words.bash");
-    let help = words.split_once("cat <<'END'\n").and_then(|(_, rest)| rest.split_once("\nEND\n")).expect("the help").0;
-    assert_eq!(ccr(&["--help"]).told, format!("{help}\n"));
+    let parts = std::fs::read_dir(Path::new(TOP).join("tools/lib")).expect("its folder").map(|part| part.expect("a part").path());
+    let text: String = parts.filter(|part| part.is_file()).map(|part| std::fs::read_to_string(part).expect("a text")).collect();
+    let help = text.split_once("cat <<'END'\nusage: ").and_then(|(_, rest)| rest.split_once("\nEND\n")).expect("the help").0;
+    assert_eq!(ccr(&["--help"]).told, format!("usage: {help}\n"));
 }
 
 #[test]
@@ -79,10 +80,9 @@ fn files_are_read_in_place_of_standard_input() {
 
 #[test]
 fn files_that_cannot_be_read_are_named() {
-    for name in ["not-there.ccr", "examples"] {
+    for (name, told) in [("not-there.ccr", "ccr: there is no file 'not-there.ccr'\n"), ("examples", "ccr: 'examples' is a directory\n")] {
         let found = ccr(&["check", name]);
-        assert_eq!((found.written.as_str(), found.status), (USAGE, Some(1)));
-        assert!(found.told.starts_with(&format!("ccr: '{name}' is neither a word nor a file: ")), "{}", found.told);
+        assert_eq!((found.written.as_str(), found.told.as_str(), found.status), (USAGE, told, Some(1)));
     }
 }
 
@@ -99,7 +99,7 @@ fn another_encoding_is_named() {
     let text: Vec<u8> = "\u{feff}ccr 1\nport a\n".encode_utf16().flat_map(u16::to_le_bytes).collect();
     let found = ccr(&["check", scratch("utf16.ccr", &text).to_str().expect("text")]);
     assert_eq!((found.written.as_str(), found.status), ("refused 1 1\ndone 2\n", Some(2)));
-    let told = "ccr: line 1: a byte that is neither a blank nor a printable character of ASCII (code 1)\n  the text is UTF-16: save it as plain ASCII\n";
+    let told = "ccr: line 1: a byte that is neither a blank nor a printable character of ASCII (code 1)\nccr: the text is UTF-16, and plain ASCII is due: iconv -f UTF-16 -t ASCII FILE\n";
     assert_eq!(found.told, told);
 }
 
