@@ -57,7 +57,7 @@ fn convert(name: &str, from: &Path, to: &Path) {
 }
 
 fn main() {
-    println!("cargo::rerun-if-changed=crates.txt\ncargo::rerun-if-changed=crates\ncargo::rerun-if-changed=rust/build.rs\ncargo::rerun-if-changed=rust/translate.rs");
+    ["crates.txt", "rust/build.rs", "rust/translate"].iter().for_each(|path| println!("cargo::rerun-if-changed={path}"));
     let (top, out) = (PathBuf::from(env::var_os("CARGO_MANIFEST_DIR").expect("cargo")), PathBuf::from(env::var_os("OUT_DIR").expect("cargo")));
     let all = crates(&read(&top.join("crates.txt")));
     let mut program = Vec::new();
@@ -66,6 +66,7 @@ fn main() {
     for name in all.keys() {
         let folder = out.join(name);
         let _ = fs::remove_dir_all(&folder);
+        println!("cargo::rerun-if-changed=crates/{name}/src");
         convert(name, &top.join("crates").join(name).join("src"), &folder);
         let only = if program.contains(name) { "" } else { "#[cfg(test)] " };
         modules.push_str(&format!("{only}#[path = {:?}] pub mod {name};\n", folder.join("mod.rs")));

@@ -1,14 +1,43 @@
-//! ccr with stock Rust: the crates of the repository without their contracts, over a kit that stands in for the toolchain's library.
-#![allow(dead_code, unused_imports, unused_variables, unused_parens, unused_mut, unused_unsafe, unused_labels, unused_macros, mismatched_lifetime_syntaxes, clippy::all)]
+//! Coordination that is fixed by a text: a wiring says which messages start which work, a run of it is written down event by event, and
+//! any such history can be judged without running anything.
+//!
+//! ```
+//! use ccr::{Verdict, Wiring, Workers, verify};
+//!
+//! let wiring = Wiring::read("ccr 1\nqueue q unbounded\nport a\nhandler h\nend\nreceive r always q h take a 1 any\nposter p\npost a 7\nend\n")?;
+//! let run = wiring.run(Workers::Threads(4))?;
+//! assert_eq!(run.counts().fired, 1);
+//! assert!(run.history().contains("post s0.0 a 7"));
+//! let Verdict::Legal(legal) = verify(&wiring, run.text())? else { panic!("a run is legal") };
+//! assert!(legal.complete && legal.quiet);
+//! # Ok::<(), ccr::Error>(())
+//! ```
+//!
+//! The sources are the proved crates of this repository, without their contracts. docs/RUST.md says what is promised here and what isn't.
+#![deny(missing_docs, unsafe_code)]
 
 #[macro_use]
 mod kit;
-include!(concat!(env!("OUT_DIR"), "/crates.rs"));
+
+/// The crates as rust/build.rs writes them.
+#[allow(warnings, clippy::all, unsafe_code)]
+mod crates {
+    include!(concat!(env!("OUT_DIR"), "/crates.rs"));
+}
 
 mod api;
 
-pub use api::{Fault, Run, Verdict, Wiring};
-pub use kit::streams::{AllocGlobal, HostRuntime, Standard};
+pub use api::error::{Error, ErrorKind};
+pub use api::run::{Counts, Run, Workers};
+pub use api::sentences;
+pub use api::verdict::{Illegal, Legal, Verdict, verify};
+pub use api::wiring::Wiring;
+pub use api::words::{Status, answer};
+pub use kit::streams::Standard;
 
 #[cfg(test)]
 mod tests;
+
+#[cfg(test)]
+#[path = "translate/mod.rs"]
+mod translate;

@@ -42,6 +42,7 @@ pub struct Table<S, V, K, P, A> {
 
 /// No memory was left for a table.
 pub struct Refused<S> {
+    #[allow(dead_code, reason = "it is handed back, and those who call let it go")]
     pub slots: Vec<S>,
 }
 

@@ -79,14 +79,6 @@ impl<K: Eq + Hash, V> IndexMap<K, V> {
         self.keys.len()
     }
 
-    pub fn is_empty(&self) -> bool {
-        self.keys.is_empty()
-    }
-
-    pub fn iter(&self) -> impl Iterator<Item = (&K, &V)> {
-        self.keys.iter().zip(self.values.iter())
-    }
-
     pub fn reserve(&mut self, count: usize) -> Result<(), AllocError> {
         self.keys.try_reserve(count)?;
         self.values.try_reserve(count)?;

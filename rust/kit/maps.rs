@@ -64,10 +64,6 @@ impl<K: Eq + Hash, V, S: BuildHasher> HashMap<K, V, S> {
         HashMap(std::collections::HashMap::with_hasher(hasher))
     }
 
-    pub fn reserve(&mut self, count: usize) -> Result<(), AllocError> {
-        Ok(self.0.try_reserve(count)?)
-    }
-
     /// A key that is there already takes no memory.
     pub fn insert(&mut self, key: K, value: V) -> Result<Option<V>, AllocError> {
         if self.0.len() == self.0.capacity() {
@@ -98,10 +94,6 @@ pub struct HashSet<K>(std::collections::HashSet<K>);
 impl<K: Eq + Hash> HashSet<K> {
     pub fn new(_: Global) -> Self {
         HashSet(std::collections::HashSet::new())
-    }
-
-    pub fn reserve(&mut self, count: usize) -> Result<(), AllocError> {
-        Ok(self.0.try_reserve(count)?)
     }
 
     pub fn insert(&mut self, key: K) -> Result<bool, AllocError> {

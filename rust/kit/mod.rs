@@ -1,5 +1,6 @@
 //! What stands in for the library of Rattle's toolchain, as far as the crates use it: over Rust's std alone.
-#![allow(dead_code)]
+// (The crates of the tests use more than those of the program.)
+#![cfg_attr(not(test), allow(dead_code, unused_imports, unused_macros))]
 
 /// A vector of items, in the memory of an allocator; Rust's own without one.
 macro_rules! vec {
@@ -31,6 +32,7 @@ pub mod maps;
 pub mod memory;
 pub mod serde_json;
 pub mod slab;
+pub mod standard;
 pub mod streams;
 pub mod texts;
 pub mod threads;
@@ -98,7 +100,7 @@ pub mod std {
     }
 
     pub mod thread {
-        pub use crate::kit::threads::{Parker, Threads, join, map_vec};
+        pub use crate::kit::threads::{Parker, Threads, map_vec};
         pub use ::std::thread::*;
     }
 
@@ -113,7 +115,6 @@ pub mod std {
 
     pub mod env {
         pub use crate::kit::streams::FillError;
-        pub use ::std::env::*;
     }
 
     pub mod process {

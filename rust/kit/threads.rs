@@ -64,15 +64,3 @@ pub fn map_vec<R: Threads, T: Send, U: Send, F: Fn(T) -> U + Sync>(_: &R, items:
     }
     Ok(all)
 }
-
-/// Makes both calls, the second in a thread of its own where one can be made.
-pub fn join<R: Threads, A: Send, B: Send>(_: &R, one: impl FnOnce() -> A + Send, other: impl FnOnce() -> B + Send) -> (A, B) {
-    std::thread::scope(|scope| {
-        let begun = scope.spawn(other);
-        let first = one();
-        match begun.join() {
-            Ok(second) => (first, second),
-            Err(fault) => std::panic::resume_unwind(fault),
-        }
-    })
-}

@@ -1,6 +1,7 @@
-//! The programs that try rows and cases, each on its input, as the repository has them. (The #[test] functions of the crates run beside these.)
+//! The programs that try rows and cases, each on its input, as the repository has them.
+use crate::crates::{ccr_cases, ccr_examples, ccr_try_runs, ccr_try_values};
+use crate::kit::standard::in_memory::STREAMS;
 use crate::kit::streams::HostRuntime;
-use crate::kit::streams::streams_of_test::STREAMS;
 
 /// What the program writes on the input that stands in the folder, against what is due there.
 fn try_program<E: std::fmt::Debug>(main: fn(HostRuntime) -> Result<(), E>, name: &str) {
@@ -13,20 +14,20 @@ fn try_program<E: std::fmt::Debug>(main: fn(HostRuntime) -> Result<(), E>, name:
 
 #[test]
 fn worked_cases() {
-    try_program(crate::ccr_cases::main, "ccr_cases");
+    try_program(ccr_cases::main, "ccr_cases");
 }
 
 #[test]
 fn rows_of_values() {
-    try_program(crate::ccr_try_values::main, "ccr_try_values");
+    try_program(ccr_try_values::main, "ccr_try_values");
 }
 
 #[test]
 fn rows_of_runs() {
-    try_program(crate::ccr_try_runs::main, "ccr_try_runs");
+    try_program(ccr_try_runs::main, "ccr_try_runs");
 }
 
 #[test]
 fn calls_to_copy() {
-    try_program(crate::ccr_examples::main, "ccr_examples");
+    try_program(ccr_examples::main, "ccr_examples");
 }
