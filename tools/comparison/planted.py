@@ -107,12 +107,17 @@ def tried(tree, target, planted, compare):
     return found
 
 
-def has_none(tree, target, compare):
-    """Whether the copy is found to answer alike before anything is planted."""
+def base_of(place, tree, target, given, compare):
+    """What the planted programs are compared with; None where the copy differs before anything is planted."""
     begin = time.monotonic()
-    wrong = compare(build(tree, target))
+    program = build(tree, target)
+    if not given.proved:
+        base = shutil.copy2(program, os.path.join(place, "base"))
+        tell("nothing", "built", begin)
+        return base
+    wrong = compare(given.proved, program)
     tell("nothing", "FOUND" if wrong else "not found", begin)
-    return not wrong
+    return None if wrong else given.proved
 
 
 def try_all(top, given, compare):
@@ -120,15 +125,17 @@ def try_all(top, given, compare):
     beside.LIMIT = SECONDS
     place = os.path.join(top, "target", "planted")
     tree, target = os.path.join(place, "tree"), os.path.join(place, "target")
-    copy_tree(top, tree)
     wanted = [planted for planted in ALL if not given.planted or planted.name in given.planted]
     unknown = set(given.planted) - {planted.name for planted in ALL}
-    for planted in wanted:
-        place_of(tree, planted)              # a text that is gone is told before anything is built
-    if unknown or not wanted:
+    if unknown:
         print(f"rust-check: no planted difference is named so: {' '.join(sorted(unknown))}")
         return 1
-    is_same = has_none(tree, target, compare) if not given.planted else True
-    found = sum(tried(tree, target, planted, compare) for planted in wanted)
+    copy_tree(top, tree)
+    for planted in wanted:
+        place_of(tree, planted)              # a text that is gone is told before anything is built
+    base = base_of(place, tree, target, given, compare)
+    if base is None:
+        return 1
+    found = sum(tried(tree, target, planted, lambda program: compare(base, program)) for planted in wanted)
     print(f"rust-check: {found} of {len(wanted)} planted differences found")
-    return 0 if is_same and found == len(wanted) else 1
+    return 0 if found == len(wanted) else 1
