@@ -47,6 +47,11 @@ class Events(Page):
             for other in words[words.index("cut") + 1:]:
                 self.waited(task(other), place, "cut", line)
 
+    def posters_first(self):
+        """The posters' lanes, in the order of the wiring, before all others."""
+        names = {poster(str(number), self.posters): number for number in range(64)}
+        self.lanes = dict(sorted(self.lanes.items(), key=lambda it: (0, names[it[0]]) if it[0] in names else (1, it[1])))
+
     def went_on(self, name, place, kind, line):
         """The bar of a task that was suspended."""
         first, line_of_end = self.since.pop(name)
@@ -59,6 +64,7 @@ class Events(Page):
         for name, first in self.waits.items():
             if self.waits_for_long(name):
                 self.bar("waiting", first, columns + 1, "stuck", name, "waits to the end")
+        self.posters_first()
 
     def waits_for_long(self, name):
         """Whether the task waits for its Interleave, where the wiring tells which branches stand in one."""
