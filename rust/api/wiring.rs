@@ -49,8 +49,8 @@ impl Wiring {
         Ok(ascii(write_wiring(Global, &self.0)?.into_vec().into_std()))
     }
 
-    /// Runs it: each poster and each worker in a thread of its own, and what is left when they rest in this one. It may wait for ever
-    /// where the wiring lets it.
+    /// Runs it: each poster and each worker in a thread of its own, and what is left when they rest in this one. That it
+    /// returns is proved of [`Workers::None`] alone.
     ///
     /// ```
     /// # let wiring = ccr::Wiring::read("ccr 1\nport a\nposter p\npost a 7\nend\n")?;
