@@ -43,12 +43,15 @@ class Unplantable(Exception):
     """The text that was to be changed isn't there, or more than once; or the changed program doesn't build."""
 
 
+FOR_PROOFS = {"proofs", "specs", "must-fail", "attacks", "bench"}
+
+
 def copy_tree(top, tree):
-    """The files of the repository that the package is made of, as they stand now."""
+    """The files of the repository as they stand now, but for those that only the prover reads."""
     shutil.rmtree(tree, ignore_errors=True)
     listed = subprocess.run(["git", "ls-files", "-z", "--cached", "--others", "--exclude-standard"], cwd=top, stdout=subprocess.PIPE, check=True)
     for name in filter(None, listed.stdout.decode().split("\0")):
-        if os.path.isfile(os.path.join(top, name)):
+        if not FOR_PROOFS & set(name.split("/")) and os.path.isfile(os.path.join(top, name)):
             os.makedirs(os.path.dirname(os.path.join(tree, name)), exist_ok=True)
             shutil.copy2(os.path.join(top, name), os.path.join(tree, name))
 
