@@ -39,17 +39,31 @@ def ranks(blocks, edges):
 
 
 def ordered(blocks, edges):
-    """The layers, each with its blocks in an order in which edges cross little."""
+    """The layers, each with its blocks and points in an order in which edges cross little; the way of each edge; and the layer of each block."""
     rank = ranks(blocks, edges)
+    ways, points = chains(edges, rank)
+    rank.update(points)
+    blocks = [*blocks, *points]
     layers = [[block for block in blocks if rank[block] == number] for number in range(max(rank.values(), default=0) + 1)]
     near = {block: [] for block in blocks}
-    for first, last in edges:
-        near[first].append(last)
-        near[last].append(first)
+    for way in ways.values():
+        for first, last in zip(way, way[1:]):
+            near[first].append(last)
+            near[last].append(first)
     for turn in range(8):
         place = {block: (number + 1) / (len(layer) + 1) for layer in layers for number, block in enumerate(layer)}
         for number in range(len(layers)) if turn % 2 == 0 else reversed(range(len(layers))):
             sides = {block: [place[it] for it in near[block] if (rank[it] < number if turn % 2 == 0 else rank[it] > number)] for block in layers[number]}
             layers[number].sort(key=lambda it: sum(sides[it]) / len(sides[it]) if sides[it] else place[it])
             place.update({block: (at + 1) / (len(layers[number]) + 1) for at, block in enumerate(layers[number])})
-    return layers, rank
+    return layers, ways, rank
+
+
+def chains(edges, rank):
+    """The edges with a point of their own in each layer between, which lead on to the next layer; and the points, with their layers."""
+    found, points = {}, {}
+    for number, (first, last) in enumerate(edges):
+        steps = [(number, layer) for layer in range(rank[first] + 1, rank[last])]
+        points.update({step: step[1] for step in steps})
+        found[number] = [first, *steps, last]
+    return found, points
