@@ -8,11 +8,12 @@ use std::vec::IntoIter;
 
 /// The input, and a copy of what was read of it, so that a line of it can be shown.
 pub struct Input {
-    from: From,
+    source: Source,
     copy: Option<Vec<u8>>,
 }
 
-enum From {
+/// Where the bytes come from.
+enum Source {
     Standard(Standard),
     Files(Files),
 }
@@ -33,7 +34,7 @@ struct Opened {
 
 impl Input {
     pub fn standard(is_copied: bool) -> Self {
-        Input { from: From::Standard(Standard::input()), copy: is_copied.then(Vec::new) }
+        Input { source: Source::Standard(Standard::input()), copy: is_copied.then(Vec::new) }
     }
 
     /// These files, or standard input where there are none; or why one can't be read.
@@ -44,11 +45,11 @@ impl Input {
         let opened: Result<Vec<Opened>, String> = names.iter().map(|name| open(name)).collect();
         let mut then = opened?.into_iter();
         let files = Files { now: then.next(), then, last: None };
-        Ok(Input { from: From::Files(files), copy: is_copied.then(Vec::new) })
+        Ok(Input { source: Source::Files(files), copy: is_copied.then(Vec::new) })
     }
 
     pub fn is_standard(&self) -> bool {
-        matches!(self.from, From::Standard(_))
+        matches!(self.source, Source::Standard(_))
     }
 
     /// What was read, where it is kept.
@@ -84,9 +85,9 @@ fn open(name: &OsStr) -> Result<Opened, String> {
 impl Read for Input {
     fn read(&mut self, bytes: &mut [u8]) -> io::Result<usize> {
         let is_told = self.copy.is_some();
-        let count = match &mut self.from {
-            From::Standard(stream) => stream.read(bytes),
-            From::Files(files) => files.read(bytes, is_told),
+        let count = match &mut self.source {
+            Source::Standard(stream) => stream.read(bytes),
+            Source::Files(files) => files.read(bytes, is_told),
         }?;
         self.keep(&bytes[..count]);
         Ok(count)

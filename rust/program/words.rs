@@ -215,7 +215,7 @@ mod tests {
         assert_eq!(off(&["run", "--workers", "17"]), "--workers wants a number from 0 to 16, and '17' is none");
         assert_eq!(off(&["run", "--workers"]), "--workers wants a number from 0 to 16, and '' is none");
         assert_eq!(off(&["run", "--json=1"]), "--json takes no value");
-        assert_eq!(off(&["run", "--json", "--json"]), "--json stands twice{MORE}");
+        assert_eq!(off(&["run", "--json", "--json"]), "--json stands twice");
         assert_eq!(off(&["check", "--workers=1"]), "'check' has no option --workers");
         assert_eq!(off(&["--json"]), "a word is missing");
         assert_eq!(off(&["run", "-x"]), "there is no option '-x'");

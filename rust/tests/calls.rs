@@ -50,7 +50,7 @@ fn what_differs_behind_the_history_is_misreported() {
     assert_eq!(line_of(run.text().replace("done 0\n", "done 6\n")), lines);
     assert_eq!(line_of(run.text().trim_end().to_string()), lines);
     assert_eq!(line_of(format!("{run}more")), lines + 1);
-    assert_eq!(line_of(run.text().replace("report 1\n", "report 1\nport b\n")), lines - 3);
+    assert_eq!(line_of(run.text().replace("report 1\n", "report 1\nport b\n")), lines - 4);
 }
 
 #[test]

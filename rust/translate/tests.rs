@@ -23,7 +23,7 @@ fn clauses_are_left_out() {
 #[test]
 fn ghost_items_are_left_out_with_their_documentation() {
     assert_eq!(made("ghost use A.{b,\n c};\nuse d;"), "\n\nuse d;");
-    assert_eq!(made("/// What is meant.\nghost said = { λ x. x };\nlet a;"), "//  What is meant.\n\nlet a;");
+    assert_eq!(made("a;\n  /// What is meant.\n  ghost said = { λ x. x };\nlet a;"), "a;\n  //  What is meant.\n  \nlet a;");
     assert_eq!(made("pub ghost said: { Nat },\na: u8"), "\na: u8");
     assert_eq!(made("prove!(a ? b);\nc?;"), "\nc?;");
 }
