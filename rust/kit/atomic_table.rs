@@ -1,5 +1,6 @@
 //! A table of words that change in single steps, and of slots, each of which one seat has at a time. The proofs say which, so the lock
 //! round each slot is always free here: it is what Rust asks for in place of the proof.
+#![allow(clippy::extra_unused_type_parameters, clippy::type_complexity, reason = "the sources name each step by a type")]
 use super::memory::{Global, Vec};
 use super::threads::Wait;
 use std::marker::PhantomData;

@@ -59,11 +59,6 @@ class Pair:
         return ended(*begun(self.programs[name], words, text, self.folder.name), time.monotonic() + LIMIT)
 
 
-def shown(answer):
-    wrote = answer.wrote if len(answer.wrote) <= 160 else answer.wrote[:160] + b".."
-    return f"status {answer.status} {wrote!r}"
-
-
 def difference(one, other):
     """Where two answers part, in words; None where they are the same."""
     if one == other:
@@ -73,5 +68,7 @@ def difference(one, other):
     lines, others, number = one.wrote.split(b"\n"), other.wrote.split(b"\n"), 0
     while lines[number:number + 1] == others[number:number + 1]:
         number += 1
-    parts = [part[number][:120] if number < len(part) else b"" for part in (lines, others)]
-    return f"line {number + 1}: the proved program writes {parts[0]!r} (status {one.status}), cargo's {parts[1]!r} (status {other.status})"
+    pair = [part[number] if number < len(part) else b"" for part in (lines, others)]
+    begin = max(0, len(os.path.commonprefix(pair)) - 60)
+    wrote, instead = (line[begin:begin + 120] for line in pair)
+    return f"line {number + 1}: the proved program writes {wrote!r} (status {one.status}), cargo's {instead!r} (status {other.status})"
