@@ -18,6 +18,12 @@ def why(path, error):
     return f"{path} can't be read: {error.strerror or error}"
 
 
+def misused(doc):
+    """That the words ask for nothing, with the tool's first usage."""
+    usage = next(line for line in doc.splitlines() if line.startswith("usage: "))
+    return Wrong(f"these words ask for nothing. {usage.split('   ')[0]} (--help says more)")
+
+
 def file(path):
     """The bytes of a file."""
     try:

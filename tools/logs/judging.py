@@ -37,6 +37,8 @@ class Log:
     def judge(self):
         """Adds each event. Raises Fault at the first line that is no event or isn't allowed."""
         due = b"history %d" % self.machine.wiring.version
+        if not self.lines:
+            raise Fault(1, "the log is empty: its lines weren't written out, perhaps, as the system was stopped", [f"due: {due.decode()}"])
         if self.lines[:1] != [due]:
             raise Fault(1, "the first line isn't that of a history of this wiring", [f"due: {due.decode()}"])
         for number, line in enumerate(self.lines[1:], 2):

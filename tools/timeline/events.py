@@ -131,7 +131,9 @@ def read(lines):
     """The page, and how many columns it has."""
     first = next((place for place, line in enumerate(lines) if line.startswith("history ")), 0)
     if not lines or lines[first] not in ("history 1", "history 2"):
-        raise Refused("line 1: the first line is neither 'history 1' nor 'history 2'")
+        is_wiring = any(line.split() in (["ccr", "1"], ["ccr", "2"]) for line in lines)
+        more = ": this is a wiring, and what `ccr run` writes of it is due behind it" if is_wiring else ""
+        raise Refused("line 1: the first line is neither 'history 1' nor 'history 2'" + more)
     page = Events(queues_of(lines[:first]), posters_of(lines[:first]), interleaved_of(lines[:first]))
     for number, line in enumerate(lines[first + 1:], first + 2):
         place = number - first - 2
