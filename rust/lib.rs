@@ -38,6 +38,11 @@ pub use kit::streams::Standard;
 #[cfg(test)]
 mod tests;
 
+/// The page's program is a doc test.
+#[cfg(doctest)]
+#[doc = include_str!("../docs/RUST.md")]
+mod page {}
+
 #[cfg(test)]
 #[path = "translate/mod.rs"]
 mod translate;

@@ -1,6 +1,6 @@
 """Inputs whose answer the words and the text alone decide, so that two programs have to give the same bytes."""
 from comparison import inputs
-from reference import words
+from reference import drafts, words
 
 READS_ALONE = {"check", "verify", "replay", "steps", "steady", "expand"}
 
@@ -36,10 +36,17 @@ def load(rng):
     return given + rng.choice(([], [], ["--json"])), b""
 
 
+def at_a_limit(rng):
+    """A wiring or a service with as many lines, words or numbers as there may be, or with one or two more or fewer."""
+    if rng.random() < 0.7:
+        return ["check"], drafts.at_a_limit(rng)
+    return ["expand"], drafts.service_at_a_limit(rng)
+
+
 SETTLED = {
     "check": of(inputs.check), "run": of(inputs.run), "schedule": of(inputs.schedule), "judge": of(inputs.judge), "verify": of(inputs.verify),
     "load": load, "record": on_one_thread(inputs.record), "replay": of(inputs.replay), "steps": of(inputs.steps), "steady": of(inputs.counts),
-    "expand": of(inputs.expand), "service": on_one_thread(inputs.service), "words": of(inputs.call),
+    "expand": of(inputs.expand), "limits": at_a_limit, "service": on_one_thread(inputs.service), "words": of(inputs.call),
 }
 
 

@@ -158,7 +158,7 @@ class Output:
     def says_malformed(self, line, code):
         text = self.lines[line - 1]
         if code == 3:
-            return ["the text ends here, without the line 'report 1'"]
+            return ["the text ends here, without the line 'report 1'", "the output was cut off, or it is a log: tools/report WIRING LOG judges one without a report"]
         if line == self.first:
             more = ", and no carriage return at its end" if text.endswith(b"\r") else ""
             return [f"due: history {self.wiring.version}{more}"]

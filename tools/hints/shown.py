@@ -17,6 +17,11 @@ def line(all_lines, number):
     return f"    {number} | {text if len(text) <= LONGEST else text[:LONGEST] + ' ..'}"
 
 
+def a(kind):
+    """The name of a kind with its article."""
+    return ("an " if kind[:1] in "aeio" else "a ") + kind
+
+
 def near(word, choices):
     """The one of the choices that was meant, if one is near."""
     choices = list(choices)

@@ -133,7 +133,7 @@ class Hint:
     def code_6(self):
         kind = self.reader.names[self.word.encode()][0]
         line = self.declared_on(self.word, kind)
-        yield f"'{self.word}' is declared already, as a {kind}" + (f", on line {line}" if line else "") + ": all names share one space"
+        yield f"'{self.word}' is declared already, as {shown.a(kind)}" + (f", on line {line}" if line else "") + ": all names share one space"
 
     def code_7(self):
         word, kind = self.reader.asked
@@ -142,7 +142,7 @@ class Hint:
         if known and known[0] == kind:
             yield f"'{word}' is no member of the set '{self.word.partition('/')[0]}'"
         elif known:
-            yield f"'{word}' is a {known[0]}, and a {kind} is due"
+            yield f"'{word}' is {shown.a(known[0])}, and {shown.a(kind)} is due"
         elif line:
             yield f"'{word}' is declared on line {line}: put that line further up"
         else:

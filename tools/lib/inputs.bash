@@ -31,6 +31,8 @@ keep_input() {
   { read -r -u 6 _ at; } 2>/dev/null 6</proc/self/fdinfo/0
   if [ -f /dev/fd/0 ] && [ "$at" = 0 ]; then
     input=/proc/$$/fd/0
+  elif [ /dev/fd/0 -ef /dev/null ]; then
+    input=/dev/null
   elif [ -p /dev/fd/0 ] && name=$(mktemp 2>/dev/null); then
     { exec 5<>"$name"; } && rm -f "$name" && input=/proc/$$/fd/5
     exec < <(exec tee /dev/fd/5 2>/dev/null)

@@ -22,7 +22,7 @@ is_cargo_current() {
   [ -x "$1" ] && [ -z "$(find "$top/Cargo.toml" "$top/rust" "$top"/crates/*/src -type f -newer "$1" -print -quit)" ]
 }
 
-# Sets `program` to cargo's, which is built where it has to be. CCR_QUIET: what it would say on standard error the launcher says.
+# Sets `program` to cargo's, which is built where it has to be.
 take_cargos() {
   local why="isn't built"
   [ ! -x "$top/crates/ccr/out/ccr" ] || why="is older than its files"
@@ -34,17 +34,17 @@ take_cargos() {
     if [ "$status" -ne 0 ] || [ ! -x "$program" ]; then no_program "cargo didn't build the program (status $status)"; fi
     touch "$program"
   fi
-  export CCR_QUIET=1
 }
 
 # Sets `program`, and builds it where it has to be built. Fails where the words ask for nothing and none is there.
+# CCR_QUIET: what cargo's program would say on standard error the launcher says.
 find_program() {
+  export CCR_QUIET=1
   if [ -n "$off" ]; then
     program="${CCR_PROGRAM:-$top/crates/ccr/out/ccr}"
     [ -x "$program" ] && [ ! -d "$program" ] && [ ! "$program" -ef "$top/ccr" ]
   elif [ -n "${CCR_PROGRAM:-}" ]; then
     look_at_named
-    export CCR_QUIET=1
   elif program="$top/crates/ccr/out/ccr" && ! is_current; then
     if [ -f "$top/Cargo.toml" ] && command -v cargo >/dev/null; then
       take_cargos

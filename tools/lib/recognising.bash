@@ -72,6 +72,11 @@ say_kind() {
   esac
 }
 
+# Whether the words ask for turn lines.
+is_scheduled() {
+  [[ " ${words[*]} " == *" --schedule "* ]]
+}
+
 # What is said of the line that was refused.
 say_line() {
   local line
@@ -80,7 +85,8 @@ say_line() {
     "ccr "[12] | "ccr "[12]$'\r') echo "here a second wiring begins, and '$word' reads one" ;;
     "record 1 "*) case $word in replay | steps) ;; *) echo "here a record begins: './ccr replay' runs it again" ;; esac ;;
     "history "[12]) case $word in verify) ;; *) echo "here an output of 'run' begins: './ccr verify' judges it" ;; esac ;;
-    "turn "*) [ "$word" != run ] || echo "here turn lines begin: 'run --schedule' reads them" ;;
+    "turn "*) [ "$word" != run ] || is_scheduled || echo "here turn lines begin: 'run --schedule' reads them" ;;
+    "done 0") case $word in check | run | record | steady | verify) echo "this is the last line that 'check' and 'expand' write, and no line of a wiring: sed '\$d' FILE takes it out" ;; esac ;;
   esac
 }
 
@@ -109,7 +115,11 @@ recognise() {
   elif [ "$code" -eq 2 ]; then
     say_kind "$(first_words)"
   elif [ "$code" -eq 16 ]; then
-    if has_line "history "; then echo "this is an output of 'run', and '$word' reads a record, which 'record' writes"; fi
+    if has_line "history "; then
+      echo "this is an output of 'run', and '$word' reads a record, which 'record' writes"
+    else
+      echo "this is a wiring, and '$word' reads a record: ./ccr record WIRING > RECORD"
+    fi
   else
     say_line "$number"
   fi

@@ -63,7 +63,7 @@ pub fn steps(alloc: Global, wiring: &Wiring, input: &str, out: &mut List<u8>) {
 /// For `WORKERS TURN ..` the turns that give the run again.
 pub fn schedule(alloc: Global, wiring: &Wiring, input: &str, out: &mut List<u8>) {
     let (workers, turns) = first_number(input);
-    if workers > MAX_WORKERS {
+    if workers > MAX_WORKERS || !is_closed(wiring.parts()) {
         return;
     }
     let turns = numbers_of(alloc, turns);
@@ -76,6 +76,9 @@ pub fn schedule(alloc: Global, wiring: &Wiring, input: &str, out: &mut List<u8>)
 
 /// Adds how many turns give the run again, if some do.
 fn put_turns(alloc: Global, wiring: &Wiring, full: &Full, out: &mut List<u8>) {
+    if !is_closed(wiring.parts()) {
+        return;
+    }
     match schedule_of(alloc, wiring, 0, full) {
         Ok(Some(turns)) => put_number(out, turns.len() as u64),
         Ok(None) => put_word(out, b"none"),

@@ -11,7 +11,7 @@ use Rattle.ccr_commands.proofs.TotalsAreTold.{told_totals}
 use Rattle.ccr_commands.proofs.load.load_text.Goals as goal
 
 pub first_history-requires-clause-closed : goal.first_history-requires-clause-closed
-first_history-requires-clause-closed g c = ap is_closed c.in_ok-wiring.ensures
+first_history-requires-clause-closed g c = λ κs outlives. ap is_closed c.in_ok-wiring.ensures
 
 pub count_to_end-requires-clause-closed : goal.count_to_end-requires-clause-closed
 count_to_end-requires-clause-closed g c = ap is_closed c.in_ok-wiring.ensures

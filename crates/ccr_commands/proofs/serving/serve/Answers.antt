@@ -1,4 +1,4 @@
-use Rattle.std.proofs.Common.{◌≡◌, ◌∙◌, ◌∷◌, ◌++◌, List, [], true, false, None, subst}
+use Rattle.std.proofs.Common.{◌≡◌, ◌∙◌, ◌∷◌, ◌++◌, List, [], true, false, None, ap, subst}
 use Rattle.std.specs.Prelude.{codes}
 use Rattle.ccr_wiring.specs.declared.parts.Parts.{Parts}
 use Rattle.ccr_wiring.specs.Openness.{is_closed}
@@ -12,7 +12,7 @@ use Rattle.ccr_commands.specs.Services.{client_lines}
 use Rattle.ccr_commands.proofs.serving.serve.Goals as goal
 
 pub run_history-requires-clause-closed : goal.run_history-requires-clause-closed
-run_history-requires-clause-closed g c = ap is_closed c.in_ok-wiring.ensures
+run_history-requires-clause-closed g c = λ κs outlives. ap is_closed c.in_ok-wiring.ensures
 
 pub returns : goal.returns
 returns g c =
